@@ -1,0 +1,2 @@
+pub mod Suits
+pub mod Constants
