@@ -1,2 +1,3 @@
 pub mod Suits
-pub mod Constants
+pub mod Bytes
+pub mod OnCards

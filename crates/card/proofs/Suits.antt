@@ -23,6 +23,13 @@ pub colour-low : (c : ℕ) → colour (suit c) < 2
 unfolding colour
 colour-low c = omega (arith, suit-low c)
 
--- the mask of the cards at which f is s, where f stays below n and s does not
-pub none-so : (f : ℕ → ℕ) (n s : ℕ) → ((c : ℕ) → f c < n) → n ≤ s → 0 ≡ maskOf 64 (λ c. eqb (f c) s)
-none-so f n s low h = mask-is 64 (λ c. eqb (f c) s) 0 (pow-pos 64) (λ c l. bit-none c ∙ sym (ne-eqb (f c) s (λ e. omega (arith, low c, e))))
+-- a test that no number below 64 passes
+pub none-so : (f : ℕ → Bool) → ((c : ℕ) → c < 64 → f c ≡ false) → 0 ≡ maskOf 64 f
+none-so f h = mask-is 64 f 0 (pow-pos 64) (λ c l. bit-none c ∙ sym (h c l))
+
+-- f stays below n, and s does not
+pub none-there : (f : ℕ → ℕ) (n s : ℕ) → ((c : ℕ) → f c < n) → n ≤ s → 0 ≡ maskOf 64 (λ c. eqb (f c) s)
+none-there f n s low h = none-so (λ c. eqb (f c) s) (λ c l. ne-eqb (f c) s (λ e. omega (arith, low c, e)))
+
+pub none-at : (s : ℕ) → 64 ≤ s → 0 ≡ maskOf 64 (λ c. eqb c s)
+none-at s h = none-so (λ c. eqb c s) (λ c l. ne-eqb c s (λ e. omega (arith, e)))

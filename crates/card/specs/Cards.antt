@@ -52,19 +52,3 @@ colourMask k = maskOf 64 (λ c. eqb (colour (suit c)) k)
 -- "seven pile starts": "Pile i (0 to 6) takes i+1 cards from its start", so 0, 1, 3, 6, 10, 15, 21
 unfoldable pub pileStart : ℕ → ℕ
 pileStart i = i * (i + 1) / 2
-
--- the source's other masks. KING_MASK: the four kings
-unfoldable pub kingMask : ℕ
-kingMask = maskOf 52 isKing
-
--- HALF_MASK: of the two pairs of each rank the lower
-unfoldable pub halfMask : ℕ
-halfMask = maskOf 64 (λ c. eqb (pair c) (2 * rank c))
-
--- ALT_MASK: of the two cards of each pair the first
-unfoldable pub altMask : ℕ
-altMask = maskOf 64 (λ c. eqb c (2 * pair c))
-
--- RANK_MASK: of the four cards of each rank the first
-unfoldable pub rankMask : ℕ
-rankMask = maskOf 64 (λ c. eqb c (4 * rank c))

@@ -6,7 +6,7 @@ use borrow.Author.Needs.{needs}
 use Rattle.bits.specs.Bit.{maskOf}
 use Rattle.bits.proofs.Tables.{entries}
 use Rattle.card.specs.Cards.{flipped, rank, suit, colour, colourMask}
-use Rattle.card.proofs.Suits.{colour-low, none-so}
+use Rattle.card.proofs.Suits.{colour-low, none-there}
 use Rattle.card.proofs.colour_mask.Statement.{statement}
 use Rattle.card.proofs.colour_mask.Tie as tie
 
@@ -25,7 +25,7 @@ returns c = entries values colourMask tt (c .before .args .colour) (c .if1 .take
 
 returns-2 : tie.Need-returns-2
 unfolding colourMask
-returns-2 c = none-so (λ c. colour (suit c)) 2 (c .before .args .colour) colour-low (c .if1 .left)
+returns-2 c = none-there (λ c. colour (suit c)) 2 (c .before .args .colour) colour-low (c .if1 .left)
 
 pub colour-mask-spec : {M : Type 1} → statement M
 colour-mask-spec = tie.close (tie.spec mul-result array-read-result returns returns-2)

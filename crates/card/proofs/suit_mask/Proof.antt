@@ -6,12 +6,15 @@ use borrow.Author.Needs.{needs}
 use Rattle.bits.specs.Bit.{maskOf}
 use Rattle.bits.proofs.Tables.{entries}
 use Rattle.card.specs.Cards.{flipped, rank, suit, suitMask}
-use Rattle.card.proofs.Suits.{suit-low, none-so}
+use Rattle.card.proofs.Suits.{suit-low, none-there}
 use Rattle.card.proofs.suit_mask.Statement.{statement}
 use Rattle.card.proofs.suit_mask.Tie as tie
 
 values : List ℕ
 values = 0x4141_4141_4141_4141 ∷ 0x8282_8282_8282_8282 ∷ 0x1414_1414_1414_1414 ∷ 0x2828_2828_2828_2828 ∷ []
+
+cast-if1 : tie.Need-cast-if1
+cast-if1 c = search needs
 
 mul-result : tie.Need-mul-result
 mul-result c = search needs
@@ -25,7 +28,7 @@ returns c = entries values suitMask tt (c .before .args .suit) (c .if1 .taken)
 
 returns-2 : tie.Need-returns-2
 unfolding suitMask
-returns-2 c = none-so suit 4 (c .before .args .suit) suit-low (c .if1 .left)
+returns-2 c = none-there suit 4 (c .before .args .suit) suit-low (c .if1 .left)
 
 pub suit-mask-spec : {M : Type 1} → statement M
-suit-mask-spec = tie.close (tie.spec mul-result array-read-result returns returns-2)
+suit-mask-spec = tie.close (tie.spec cast-if1 mul-result array-read-result returns returns-2)
