@@ -134,3 +134,32 @@ fn fill_empty(part: &mut [u8], vis: u64, free: u64, from: u8) -> Filled
         }
     }
 }
+
+// "a pile with a head starts there, other piles take free kings by suit": pile i through its own 13 of the lent bytes.
+pub fn compute_visible_piles(p: Position, out: &mut [u8]) -> [u8; 7]
+    requires { ⌜ T (proper p) × (91 ≤ length (now out)) ⌝ }
+    ensures { λ r. ⌜ (r ≡ pileLengths p) × (now (out .exit) ≡ pilesInto p (now (out .entry))) ⌝ }
+{
+    let deal = p.deal;
+    let counts = p.counts;
+    let vis = p.visible;
+    let heads = hidden::heads(p);
+    let free = vis & !heads.all;
+    let mut lens = [0u8; N_PILES];
+    let mut from: u8 = 0;
+    let mut i: usize = 0;
+    while i < N_PILES {
+        let a = N_RANKS * i;
+        let n = counts[i] as usize;
+        if 0 < n {
+            let at = rules::pile_start(i) as usize + n - 1;
+            lens[i] = fill_run(&mut out[a..a + N_RANKS], vis, free, deal[at]);
+        } else {
+            let f = fill_empty(&mut out[a..a + N_RANKS], vis, free, from);
+            from = f.from;
+            lens[i] = f.len;
+        }
+        i += 1;
+    }
+    lens
+}

@@ -1,81 +1,102 @@
+-- `piles::fill_empty` meets its contract. The loop's invariant: from the suit s on there are the same kings as from the first suit on.
+-- Assumes nothing.
+use mathlib.Core.Logic.{⊎-elim}
+use mathlib.Core.Path.{_≡_, sym, ap, _∙_, subst}
+use mathlib.Core.List.{[], _∷_}
+use Prim.Native.Nat.{ℕ, _+_, _-_, _<_}
+use native.Mathlib.Omega.{arith}
+use lib.Dec.{lit≤}
+use lib.ListN.{length}
+use Rattle.rules.specs.Piles.{rest}
+use Rattle.piles.specs.declared.Next.the-variants.{Suit, None}
+use Rattle.piles.specs.Run.{kingsOf, firstOf, row}
+use Rattle.piles.proofs.Kings.{Yields, kings-end, kings-step}
 use borrow.Author.Needs.{needs}
 use Rattle.piles.proofs.fill_empty.Statement.{statement}
 use Rattle.piles.proofs.fill_empty.Tie as tie
-use Rattle.piles.proofs.fill_empty.Reads as reads
-use Rattle.piles.proofs.fill_empty.Lts as lts
-use Rattle.piles.proofs.clear.Reads as clear-reads
-use Rattle.piles.proofs.fill_run.Reads as fill-run-reads
-use Rattle.piles.proofs.has.Reads as has-reads
 
 abbrev Inv-loop : tie.InvT-loop
-Inv-loop part vis free from s₀ s = ?
+Inv-loop part vis free from s₀ s = kingsOf free from ≡ kingsOf free s
 
 abbrev μ-loop : tie.MeasureT-loop
-μ-loop part vis free from s₀ s = ?
+μ-loop part vis free from s₀ s = 4 - s
 
--- src/lib.rt:111:9
 loop-holds : tie.Need-loop-holds Inv-loop μ-loop
 loop-holds c = search needs
 
--- src/lib.rt:115:22
 add-has : tie.Need-add-has Inv-loop μ-loop
 add-has c = search needs
 
--- src/lib.rt:115:12
 has-requires : tie.Need-has-requires Inv-loop μ-loop
 has-requires c κs = search needs
 
--- src/lib.rt:118:9
 add-s : tie.Need-add-s Inv-loop μ-loop
 add-s c = search needs
 
--- src/lib.rt:111:9
 loop-less : tie.Need-loop-less Inv-loop μ-loop
 loop-less c = search needs
 
--- src/lib.rt:111:9
 loop-again : tie.Need-loop-again Inv-loop μ-loop
-loop-again c = search needs
+loop-again c =
+    c .before .before .before .loop .inv ∙ kings-step _ _ (c .before .before .if1 .left) ∙ rw (← c .before .has .ensures, c .if2 .left)
 
--- src/lib.rt:121:20
+-- where the search ends
+found : (c : tie.Joined1 Inv-loop μ-loop) → Yields (c .before .before .before .args .free) (c .before .before .before .args .from) (c .if1 .next)
+found c =
+    let s = c .before .before .before .args in
+    let l = c .before .loop in
+    ⊎-elim
+    (λ w. subst (Yields (s .free) (s .from)) (sym (w .1)) (l .inv ∙ kings-end _ _ (w .0 .taken)))
+    (λ w.
+    subst (Yields (s .free) (s .from)) (sym (w .3))
+    (w .0 .left, l .inv ∙ kings-step _ _ (w .0 .left) ∙ rw (← w .1 .ensures, w .2 .taken)))
+    (c .if1 .came)
+
+-- the king that was found; or that there is none
+king : (c : tie.After-next Inv-loop μ-loop) → Yields (c .before .before .before .before .before .args .free) (c .before .before .before .before .before .args .from) (Suit (c .next .given .0 .0))
+king c =
+    let s = c .before .before .before .before .before .args in
+    subst (Yields (s .free) (s .from)) (c .next .given .1) (found (c .before .before))
+
+none : (c : tie.After-enum-told Inv-loop μ-loop) → Yields (c .before .before .before .before .before .args .free) (c .before .before .before .before .before .args .from) None
+none c =
+    let s = c .before .before .before .before .before .args in
+    subst (Yields (s .free) (s .from)) (c .enum-told .given .1) (found (c .before .before))
+
 enum-known-next : tie.Need-enum-known-next Inv-loop μ-loop
 enum-known-next c = search needs
 
--- src/lib.rt:122:49
 add-fill-run : tie.Need-add-fill-run Inv-loop μ-loop
-add-fill-run c = search needs
+add-fill-run c = omega (arith, king (c .before .before) .0)
 
--- src/lib.rt:122:17
 fill-run-requires : tie.Need-fill-run-requires Inv-loop μ-loop
-fill-run-requires c κs = search needs
+fill-run-requires c κs = (search needs, omega (arith, king (c .before .before) .0))
 
--- src/lib.rt:125:23
 add-t16 : tie.Need-add-t16 Inv-loop μ-loop
-add-t16 c = search needs
+add-t16 c = omega (arith, king (c .before .before .before .before .before) .0)
 
--- src/lib.rt:129:19
 enum-told : tie.Need-enum-told Inv-loop μ-loop
 enum-told c = search needs
 
--- src/lib.rt:129:13
 clear-requires : tie.Need-clear-requires Inv-loop μ-loop
 clear-requires c κs = search needs
 
--- src/lib.rt:106:1
 same-length : tie.Need-same-length Inv-loop μ-loop
 same-length c = search needs
 
--- src/lib.rt:106:1
 returns : tie.Need-returns Inv-loop μ-loop
-returns c = search needs
+returns c =
+    let e = king (c .before .before .before .before .before) .1 in
+    let r = c .before .before .fill-run .ensures in
+    (rw e (r .0), rw e, rw e (r .1))
 
--- src/lib.rt:106:1
 same-length-2 : tie.Need-same-length-2 Inv-loop μ-loop
 same-length-2 c = search needs
 
--- src/lib.rt:106:1
 returns-2 : tie.Need-returns-2 Inv-loop μ-loop
-returns-2 c = search needs
+returns-2 c =
+    let e = none (c .before .before .before .before) in
+    (rw e, rw e (kings-end _ 4 (lit≤ tt)), rw e (c .before .before .clear .ensures))
 
 pub fill-empty-spec : {M : Type 1} → statement M
 fill-empty-spec =
