@@ -28,12 +28,13 @@ Whole run part m = (m ≡ length run) × (part ≡ row run)
 
 whole : (run part : List ℕ) (m : ℕ) → length part ≡ 13 → m ≤ 13 → run ≡ take m part → drop m part ≡ replicate (13 - m) 255 → Whole run part m
 whole run part m size l e d =
-    let parted : 13 ≡ 13 - m + m = omega arith in
-    (sym (length-take-le m part (omega arith)) ∙ ap length (sym e),
-    sym
-    (ap (λ (k : ℕ). take 13 (run ++ replicate k 255)) parted
-    ∙ rw (← replicate-append-replicate, ← d, e, ← append-assoc, take-append-drop)
-    (take-at part (replicate m 255) 13 size)))
+    let parted : 13 ≡ 13 - m + m = omega arith in (
+      sym (length-take-le m part (omega arith)) ∙ ap length (sym e),
+      sym
+          (ap (λ (k : ℕ). take 13 (run ++ replicate k 255)) parted
+          ∙ rw (← replicate-append-replicate, ← d, e, ← append-assoc, take-append-drop)
+          (take-at part (replicate m 255) 13 size)),
+    )
 
 module _ (vis free start card n : ℕ) (part : List ℕ) (w : Written vis free start part card n) where
   goes : Bool

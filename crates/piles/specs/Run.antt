@@ -1,5 +1,5 @@
 -- The face-up piles as their filler reads them: from the mask of the visible cards and that of the free cards.
--- `proofs/Tie.antt` shows that on a proper position these are the definitions of `rules`.
+-- `proofs/Reading.antt` shows that on a proper position these are the definitions of `rules`.
 use mathlib.Core.Bool.{not, _&&_, _||_, cond}
 use mathlib.Core.List.{List, [], _∷_, _++_, map}
 use Prim.Native.Nat.{ℕ, zero, suc, _+_, _-_}
