@@ -1,24 +1,23 @@
 -- What the filler reads from its masks is what the definitions of `rules` say of the position.
 -- Assumes nothing.
-use mathlib.Core.Bool.{Bool, true, false, not, _&&_, _||_, cond}
-use mathlib.Core.Path.{_≡_, refl, sym, ap, ap₂, _∙_}
+use mathlib.Core.Bool.{Bool, true, false, not, _&&_}
+use mathlib.Core.Path.{_≡_, refl, sym, ap, _∙_}
 use mathlib.Core.List.{List, [], _∷_, map}
-use Prim.Native.Nat.{ℕ, zero, suc, _+_, _-_, _≤_, _<_}
+use Prim.Native.Nat.{ℕ, zero, suc, _+_, _-_, _≤_}
 use native.Mathlib.Nat.{zero-add}
-use native.Mathlib.Omega.{arith}
-use lib.Dec.{T, eqb, ltb, lit≤}
+use lib.Dec.{T, ltb}
 use lib.ListN.{getD}
 use borrow.Author.Tests.{ltb-true, ltb-false}
-use Rattle.bits.specs.Bit.{bit, maskOf, listOf}
+use Rattle.bits.specs.Bit.{bit, maskOf}
 use Rattle.bits.proofs.Laws.{bit-mask, bit-high, mask-lt}
 use Rattle.bits.proofs.Counts.{list-ext}
 use Rattle.rules.specs.declared.Position.{Position}
-use Rattle.rules.specs.Cards.{rank, partner, cardOf}
-use Rattle.rules.specs.Places.{pileStart, pileCard, cardAt, count, hasHead, head, isVisible, isLocked, isFree}
+use Rattle.rules.specs.Cards.{partner, cardOf}
+use Rattle.rules.specs.Places.{pileStart, pileCard, cardAt, count, head, isVisible, isLocked, isFree}
 use Rattle.rules.specs.Proper.{proper}
 use Rattle.rules.specs.Piles.{tried, run, freeKings, firstRun}
 use Rattle.rules.proofs.Facts.{facts}
-use Rattle.piles.specs.Run.{triedOf, runOf, kingsOf, firstOf}
+use Rattle.piles.specs.Run.{triedOf, runOf, kingsOf, firstRunOf}
 
 -- the parts of a proper position that the seven piles are filled from
 pub record Reads (p : Position) (deal counts : List ℕ) (vis free : ℕ) : Type 0 where
@@ -54,7 +53,7 @@ module _ (p : Position) (deal counts : List ℕ) (vis free : ℕ) (r : Reads p d
   run-is zero c = refl
   run-is (suc n) c = rw (tried-is c, frees (tried p c), run-is n (tried p c))
 
-  pub first-is : (ks : List ℕ) → firstOf vis free ks ≡ firstRun p ks
+  pub first-is : (ks : List ℕ) → firstRunOf vis free ks ≡ firstRun p ks
   first-is [] = refl
   first-is (k ∷ ks) = run-is 13 k
 

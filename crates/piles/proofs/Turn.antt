@@ -1,9 +1,9 @@
 -- One pile more: the lengths and the bytes after it, and the piles that are left.
 -- Assumes nothing.
-use mathlib.Core.Bool.{Bool, true, false, cond}
-use mathlib.Core.Path.{_≡_, refl, sym, ap, _∙_, subst}
-use mathlib.Core.List.{List, [], _∷_, _++_, map, append-assoc, append-nil}
-use Prim.Native.Nat.{ℕ, zero, suc, _+_, _-_, _*_, _≤_, _<_}
+use mathlib.Core.Bool.{cond}
+use mathlib.Core.Path.{_≡_, sym, ap, _∙_, subst}
+use mathlib.Core.List.{List, _∷_, _++_, map, append-assoc, append-nil}
+use Prim.Native.Nat.{ℕ, suc, _+_, _-_, _*_, _≤_, _<_}
 use native.Mathlib.Numerals.{add-one}
 use native.Mathlib.Omega.{arith}
 use lib.ListN.{length, take, drop, set, getD, replicate, length-append, length-replicate, take-append-drop}
@@ -14,7 +14,7 @@ use Rattle.rules.specs.declared.Position.{Position}
 use Rattle.rules.specs.Places.{pileStart, count, hasHead, head}
 use Rattle.rules.specs.Piles.{run, firstRun, rest, pilesFrom, piles, pileBytes, pilesInto, pileLengths}
 use Rattle.piles.specs.declared.Filled.{Filled}
-use Rattle.piles.specs.Run.{runOf, kingsOf, firstOf, row}
+use Rattle.piles.specs.Run.{runOf, kingsOf, firstRunOf, row}
 use Rattle.piles.proofs.Reading.{Reads, run-is, first-is, kings-are, count-is, head-is}
 
 row-length : (x : List ℕ) → length (row x) ≡ 13
@@ -78,11 +78,11 @@ module _ (p : Position) (deal counts : List ℕ) (vis free : ℕ) (r : Reads p d
       (step ∙ rw (lt-ltb 0 (count p i) (subst (λ (k : ℕ). 0 < k) (count-is p deal counts vis free r i) n)))
       (ev ∙ ap length x) (ey ∙ ap row x)
 
-  pub empty-turn : (ys : List ℕ) (f : Filled) → getD counts i 0 ≤ 0 → f .len ≡ length (firstOf vis free (kingsOf free from)) → kingsOf free (f .from) ≡ rest (kingsOf free from) → ys ≡ row (firstOf vis free (kingsOf free from))
+  pub empty-turn : (ys : List ℕ) (f : Filled) → getD counts i 0 ≤ 0 → f .len ≡ length (firstRunOf vis free (kingsOf free from)) → kingsOf free (f .from) ≡ rest (kingsOf free from) → ys ≡ row (firstRunOf vis free (kingsOf free from))
       → Shown p free out₀ (back i out ys) (set lens i (f .len)) (f .from) (i + 1)
   unfolding hasHead
   empty-turn ys f n ev ek ey =
-      let x : firstOf vis free (kingsOf free from) ≡ firstRun p (kingsOf free from) = first-is p deal counts vis free r (kingsOf free from) in
+      let x : firstRunOf vis free (kingsOf free from) ≡ firstRun p (kingsOf free from) = first-is p deal counts vis free r (kingsOf free from) in
       turn (firstRun p (kingsOf free from)) ys (f .len) (f .from)
       (step ∙ rw (le-ltb 0 (count p i) (subst (λ (k : ℕ). k ≤ 0) (count-is p deal counts vis free r i) n), ek))
       (ev ∙ ap length x) (ey ∙ ap row x)

@@ -24,9 +24,9 @@ unfoldable pub kingsOf : ℕ → ℕ → List ℕ
 kingsOf free s = map (cardOf 12) (listOf (4 - s) s (λ k. bit free (cardOf 12 (s + k))))
 
 -- the run of the first king, if there is one
-abbrev pub firstOf : ℕ → ℕ → List ℕ → List ℕ
-firstOf vis free [] = []
-firstOf vis free (k ∷ ks) = runOf vis free 13 k
+abbrev pub firstRunOf : ℕ → ℕ → List ℕ → List ℕ
+firstRunOf vis free [] = []
+firstRunOf vis free (k ∷ ks) = runOf vis free 13 k
 
 -- "unused bytes become 255": a pile's 13 bytes
 abbrev pub row : List ℕ → List ℕ

@@ -7,7 +7,7 @@ ghost use Rattle.bits.specs.Bit.{bit};
 ghost use Rattle.rules.specs.Cards.{partner};
 ghost use Rattle.rules.specs.Proper.{proper};
 ghost use Rattle.rules.specs.Piles.{rest, pileLengths, pilesInto};
-ghost use Rattle.piles.specs.Run.{triedOf, runOf, kingsOf, firstOf, row};
+ghost use Rattle.piles.specs.Run.{triedOf, runOf, kingsOf, firstRunOf, row};
 use rules::Position;
 
 // The cards of one rank: one of each suit.
@@ -105,7 +105,7 @@ pub struct Filled {
 // A pile with no head takes the next free king from a suit on.
 fn fill_empty(part: &mut [u8], vis: u64, free: u64, from: u8) -> Filled
     requires { ⌜ length (now part) ≡ 13 ⌝ }
-    ensures { λ r. ⌜ (r .len ≡ length (firstOf vis free (kingsOf free from))) × (kingsOf free (r .from) ≡ rest (kingsOf free from)) × (now (part .exit) ≡ row (firstOf vis free (kingsOf free from))) ⌝ }
+    ensures { λ r. ⌜ (r .len ≡ length (firstRunOf vis free (kingsOf free from))) × (kingsOf free (r .from) ≡ rest (kingsOf free from)) × (now (part .exit) ≡ row (firstRunOf vis free (kingsOf free from))) ⌝ }
 {
     let mut s = from;
     let next = loop {

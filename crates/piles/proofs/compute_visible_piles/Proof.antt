@@ -2,13 +2,13 @@
 -- show and what the others will is the answer.
 -- Assumes nothing.
 use mathlib.Core.Logic.{⊎-elim}
-use mathlib.Core.Path.{_≡_, refl, sym, ap, _∙_}
+use mathlib.Core.Path.{_≡_, refl, ap, _∙_}
 use mathlib.Core.List.{List}
 use Prim.Native.Nat.{ℕ, _+_, _-_, _*_, _^_, _≤_, _<_}
 use native.Mathlib.Omega.{arith}
 use lib.Bits.{bitAnd}
 use lib.Dec.{T, lit≤}
-use lib.ListN.{length, getD, set, take, drop, length-set}
+use lib.ListN.{length, getD, take, drop, length-set}
 use borrow.Author.Tests.{lt-ltb}
 use borrow.Rule.Slice.PartMut.{mid-len}
 use Rattle.bits.specs.Bit.{maskOf}
@@ -23,8 +23,6 @@ use Rattle.piles.proofs.Turn.{Shown, none-yet, head-turn, empty-turn, a
 use borrow.Author.Needs.{needs}
 use Rattle.piles.proofs.compute_visible_piles.Statement.{statement}
 use Rattle.piles.proofs.compute_visible_piles.Tie as tie
-use Rattle.piles.proofs.compute_visible_piles.Reads as reads
-use Rattle.piles.proofs.compute_visible_piles.Lts as lts
 
 record Inv (out₀ deal counts : List ℕ) (vis free : ℕ) (out lens : List ℕ) (from i : ℕ) : Type 0 where
   filled : i ≤ 7

@@ -1,15 +1,12 @@
 -- `piles::fill_empty` meets its contract. The loop's invariant: from the suit s on there are the same kings as from the first suit on.
 -- Assumes nothing.
 use mathlib.Core.Logic.{⊎-elim}
-use mathlib.Core.Path.{_≡_, sym, ap, _∙_, subst}
-use mathlib.Core.List.{[], _∷_}
-use Prim.Native.Nat.{ℕ, _+_, _-_, _<_}
+use mathlib.Core.Path.{_≡_, sym, _∙_, subst}
+use Prim.Native.Nat.{_-_}
 use native.Mathlib.Omega.{arith}
 use lib.Dec.{lit≤}
-use lib.ListN.{length}
-use Rattle.rules.specs.Piles.{rest}
 use Rattle.piles.specs.declared.Next.the-variants.{Suit, None}
-use Rattle.piles.specs.Run.{kingsOf, firstOf, row}
+use Rattle.piles.specs.Run.{kingsOf}
 use Rattle.piles.proofs.Kings.{Yields, kings-end, kings-step}
 use borrow.Author.Needs.{needs}
 use Rattle.piles.proofs.fill_empty.Statement.{statement}

@@ -1,14 +1,12 @@
 -- `piles::fill_run` meets its contract. The loop's invariant: n cards of the run are written, and card is the next.
 -- Assumes nothing.
 use mathlib.Core.Logic.{⊎-elim}
-use mathlib.Core.Path.{_≡_, refl, sym, ap, _∙_, subst}
-use mathlib.Core.Bool.{not}
+use mathlib.Core.Path.{refl, sym, ap, _∙_, subst}
 use Prim.Native.Nat.{ℕ, _+_, _-_}
 use native.Mathlib.Omega.{arith}
 use lib.ListN.{length, set, length-set}
 use Rattle.bits.specs.Bit.{bit}
 use borrow.Author.Tests.{not-true, not-false}
-use Rattle.piles.specs.Run.{runOf}
 use Rattle.piles.proofs.Pairs.{tried-rank}
 use Rattle.piles.proofs.Row.{Written, ends-ace, ends-here, goes-on}
 use borrow.Author.Needs.{needs}

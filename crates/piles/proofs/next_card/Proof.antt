@@ -1,6 +1,6 @@
 -- `piles::next_card` meets its contract.
 -- Assumes nothing.
-use mathlib.Core.Path.{_≡_, sym, _∙_}
+use mathlib.Core.Path.{_∙_}
 use native.Mathlib.Omega.{arith}
 use Rattle.piles.specs.Run.{triedOf}
 use Rattle.piles.proofs.Pairs.{partner-half}
