@@ -17,6 +17,10 @@ pub record CardMasks (m : Masks) : Type 0 where
   pub «deck_stack» : m .«deck_stack» < 2 ^ 52
   pub «stack_pile» : m .«stack_pile» < 2 ^ 52
 
+-- the mask of a kind
+unfoldable pub ofKind : Masks → ℕ → ℕ
+ofKind m kind = byKind kind (m .«deck_stack») (m .«pile_stack») (m .«deck_pile») (m .«stack_pile») (m .reveal)
+
 -- `len`: how many moves
 unfoldable pub moveCount : Masks → ℕ
 moveCount m = size (m .reveal) + size (m .«pile_stack») + size (m .«deck_pile») + size (m .«deck_stack») + size (m .«stack_pile»)
