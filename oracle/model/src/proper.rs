@@ -61,7 +61,7 @@ fn heads_visible(p: &Position, s: &Places) -> bool {
 }
 
 /// "For each pair below kings: free cards in it ≤ visible cards in the pair four higher."
-fn pair_rule(s: &Places) -> bool {
+pub fn pair_rule(s: &Places) -> bool {
     (0..PAIRS - 2).all(|pair| in_pair(&s.free, pair) <= in_pair(&s.visible, pair + 2))
 }
 

@@ -1,7 +1,7 @@
 //! The position and the answers, as plain numbers.
 
 /// What document 01 says that a position holds. Any bytes at all can stand here; `proper` judges them.
-#[derive(Clone, Copy, PartialEq, Eq, PartialOrd, Ord, Debug)]
+#[derive(Clone, Copy, PartialEq, Eq)]
 pub struct Position {
     pub deal: [u8; 52],
     pub step: u8,
@@ -12,6 +12,29 @@ pub struct Position {
     pub left: u8,
     pub offset: u8,
     pub visible: u64,
+}
+
+/// Short, with the cards in hexadecimal.
+impl core::fmt::Debug for Position {
+    fn fmt(&self, f: &mut core::fmt::Formatter<'_>) -> core::fmt::Result {
+        if *self == BLANK {
+            return write!(f, "blank");
+        }
+        let cards = |cards: &[u8]| cards.iter().map(|card| format!("{card:02x}")).collect::<String>();
+        let numbered = (0..52).all(|k| usize::from(self.deal[k]) == k);
+        let deal = if numbered { "W".to_string() } else { cards(&self.deal) };
+        write!(
+            f,
+            "[deal {deal} step {} counts {:?} heights {:?} deck {} left {} offset {} visible {:#x}]",
+            self.step,
+            self.counts.map(i32::from),
+            self.heights.map(i32::from),
+            cards(&self.deck),
+            self.left,
+            self.offset,
+            self.visible
+        )
+    }
 }
 
 /// "the blank one: all numbers 0"
