@@ -29,7 +29,7 @@ fn on_head_alone(p: &Position) -> bool {
     (0..CARDS).all(|card| !s.foundation[card] || !(s.deck[card] || s.buried[card]))
 }
 
-/// The class of a difference that docs/DIFFERENCES.md explains, for the model's answer and the Rust's.
+/// The class of a difference that docs/DIFFERENCES.md explains, for document 01's answer and the Rust's.
 fn known(call: &Call, a: &Answer, b: &Answer) -> Option<&'static str> {
     match (call, a, b) {
         (Call::Find { p, card }, Answer::Located(m), Answer::Located(r)) => {
@@ -69,7 +69,11 @@ impl Tally {
         if agree(a, b) {
             return;
         }
-        let class = if sides == ("model", "Rust") { known(call, a, b) } else { None };
+        let class = match sides {
+            (_, "Rust") => known(call, a, b),
+            ("Rust", _) => known(call, b, a),
+            _ => None,
+        };
         let class = class.unwrap_or("NEW").to_string();
         let found = Difference { times: 0, call: call.clone(), answers: (a.clone(), b.clone()) };
         let kept = self.differences.entry((class, sides, call.name())).or_insert(found);
