@@ -132,27 +132,32 @@ fn try_position(rng: &mut Rng) -> Option<Position> {
             deal.push(from.pop()?);
         }
     }
-    let left: Vec<u8> = away.clone();
-    let mut stock: Vec<u8> = away.into_iter().chain(gone).collect();
+    let mut stock: Vec<u8> = away.iter().copied().chain(gone).collect();
     rng.shuffle(&mut stock);
     deal.extend(&stock);
-    let cards: Vec<u8> = stock.into_iter().filter(|c| left.contains(c)).collect();
-    let mut deck = slots(&cards);
-    if rng.once_in(4) {
-        deck[cards.len()..].fill_with(|| rng.byte_below(256));
-    }
+    stock.retain(|card| away.contains(card));
+    let left = stock.len();
     let mut p = Position {
         deal: deal.try_into().unwrap(),
         step: some_step(rng),
         counts,
         heights,
-        deck,
-        left: cards.len() as u8,
-        offset: rng.byte_below(cards.len() + 1),
+        deck: some_slots(rng, &stock),
+        left: left as u8,
+        offset: rng.byte_below(left + 1),
         ..BLANK
     };
     p.visible = mask_of(&worked_out(&p));
     Some(p)
+}
+
+/// A deck's slots, the spare ones 0 or anything.
+fn some_slots(rng: &mut Rng, cards: &[u8]) -> [u8; 24] {
+    let mut deck = slots(cards);
+    if rng.once_in(4) {
+        deck[cards.len()..].fill_with(|| rng.byte_below(256));
+    }
+    deck
 }
 
 /// A proper position that play need not reach. Every proper position can come.
