@@ -1,7 +1,7 @@
 //! Rows: the oracle's answers in a file, for a program that replays them on an engine.
 //!
 //! The file is a header and records, each 64 bytes; numbers of 2, 4 and 8 bytes are little-endian; bytes not named are 0.
-//! Header: 0 'R', 1 the version (1), 4..8 the number of records.
+//! Header: 0 'R', 1 the version (1), 4..8 the number of records. A reader must find just so many: a file cut short is a fault.
 //! A replay keeps a position (at first blank) and a history of 64 slots (at first 0). Each record asks one call or a few;
 //! a reader writes the record's outputs anew from its engine and compares the 64 bytes: a wrong byte names the field.
 //! Byte 0 is the tag and byte 1 the refusal expected (output), 0 where each entry of the record has its own.

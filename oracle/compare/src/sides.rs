@@ -91,6 +91,7 @@ impl Rust {
             }
             let o = rust::at(p);
             assert!(same(&rust::read(&o, &p.deal, p.step), p), "decode gives another position than {p:?}");
+            assert!(o.is_valid(), "the Rust finds {p:?} not valid");
             self.last = Some((*p, o));
         }
         self.last.as_ref().map(|(_, o)| o)

@@ -4,6 +4,7 @@ use crate::make;
 use crate::rng::Rng;
 use crate::tally::Tally;
 use model::types::{Masks, Moved, Position};
+use model::undo::same;
 
 pub struct Walk {
     pub sides: Vec<Box<dyn Engine>>,
@@ -122,6 +123,16 @@ impl Walk {
         self.ask(Call::Ladder { p, q });
     }
 
+    /// Undoes the move just made: every side that answers must come back to p.
+    pub fn take_back(&mut self, p: &Position, now: &Position, history: Vec<u16>, count: usize) {
+        let answers = self.ask(Call::Undo { p: *now, history, count });
+        for answer in answers.into_iter().flatten() {
+            let Answer::Undone(u, _) = answer else { unreachable!() };
+            let back = u.refusal == 0 && u.count + 1 == count && same(&u.position, p);
+            self.tally.must("a move just made is undone, by each side", back, || format!("{p:?} {now:?}"));
+        }
+    }
+
     /// Every legal move of a proper position, and the undo of each.
     pub fn moves(&mut self, p: &Position) {
         for number in model::legal::listing(&model::legal::unpruned(p)) {
@@ -135,7 +146,7 @@ impl Walk {
                     model::proper::proper(&moved.position),
                     || format!("{p:?} {number}"),
                 );
-                self.ask(Call::Undo { p: moved.position, history, count: moved.count });
+                self.take_back(p, &moved.position, history, moved.count);
             }
         }
         let refusal = model::calls::resume(&p.deal, p.step, model::code::code(p)).refusal;

@@ -47,7 +47,7 @@ fn game(walk: &mut Walk, step: u8) {
     }
     while let Some(before) = passed.pop() {
         let count = passed.len() + 1;
-        walk.ask(Call::Undo { p, history: history.clone(), count });
+        walk.take_back(&before, &p, history.clone(), count);
         let (byte, kind, card) = parts(history[count - 1]);
         running.undo_move(kind, card, byte);
         p = before;

@@ -33,18 +33,32 @@ fn write(seed: u64) {
         bytes.extend(r.0);
     }
     assert!(bytes.len() <= LIMIT, "{} bytes", bytes.len());
-    std::io::stdout().write_all(&bytes).expect("standard output");
+    let mut out = std::io::stdout().lock();
+    out.write_all(&bytes).and_then(|()| out.flush()).expect("standard output");
     eprintln!("{} records, {} bytes", w.records.len(), bytes.len());
     for tag in 1..=SET {
         eprintln!("  tag {tag:>2}: {}", w.records.iter().filter(|r| r.0[0] == tag).count());
     }
 }
 
+/// What is wrong with the file as a whole: a file cut short must not pass.
+fn file_fault(bytes: &[u8]) -> Option<String> {
+    if bytes.len() < SIZE || bytes[..2] != [b'R', VERSION] {
+        return Some("no header".to_string());
+    }
+    let told = u32::from_le_bytes(bytes[4..8].try_into().unwrap()) as usize;
+    let whole = SIZE * (told + 1);
+    (bytes.len() != whole).then(|| format!("{} bytes, and not the {whole} of {told} records", bytes.len()))
+}
+
 /// How many bytes are wrong.
 fn check() -> usize {
     let mut bytes = vec![];
     std::io::stdin().read_to_end(&mut bytes).expect("standard input");
-    assert_eq!(bytes[..2], [b'R', VERSION]);
+    if let Some(fault) = file_fault(&bytes) {
+        println!("{fault}");
+        return 1;
+    }
     let mut player = Player::new(sides::all());
     let mut wrong = 0;
     for (i, chunk) in bytes.chunks_exact(SIZE).skip(1).enumerate() {
