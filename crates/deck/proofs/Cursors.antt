@@ -28,6 +28,10 @@ answer-is c = go (cursorRefusal c)
 pub offset-is : (c : Cursor) → dealOnceAnswer c .cursor .offset ≡ turnedTo c
 offset-is c = ap (λ (t : Turned). t .cursor .offset) (answer-is c)
 
+-- the cursor of the answer has another offset at most
+pub cursor-is : (c : Cursor) → cursorOf (c .len) (c .step) (dealOnceAnswer c .cursor .offset) ≡ dealOnceAnswer c .cursor
+cursor-is c = ap (cursorOf (c .len) (c .step)) (offset-is c) ∙ sym (ap (λ (t : Turned). t .cursor) (answer-is c))
+
 pub refused-stays : (c : Cursor) → (cursorRefusal c ≡ 0 → ⊥) → turnedTo c ≡ c .offset
 unfolding turnedTo
 refused-stays c h = go (cursorRefusal c) h
