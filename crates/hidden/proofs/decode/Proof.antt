@@ -29,7 +29,7 @@ abbrev μ-loop : tie.MeasureT-loop
 
 returns : tie.Need-returns Inv-loop μ-loop
 returns c =
-    let e = le-ltb (c .before .args .field) 40320 (c .if1 .taken) in
+    let e = le-ltb (c .before .args .field) 40320 (omega (arith, c .if1 .taken)) in
     (sym e, rw e refl)
 
 loop-holds : tie.Need-loop-holds Inv-loop μ-loop
@@ -77,7 +77,7 @@ returns-2 : tie.Need-returns-2 Inv-loop μ-loop
 returns-2 c =
     let l = c .before .loop in
     let x = c .before .before .before .args .field in
-    let e = lt-ltb x 40320 (c .before .before .if1 .left) in
+    let e = lt-ltb x 40320 (omega (arith, c .before .before .if1 .left)) in
     let z : l .i ≡ 7 = omega arith in
     (sym e, rw e (sym (table-of 7 (l .counts) (l .inv .long)) ∙ table-ext 7 _ (λ i. fieldCount x i) (rw z at (l .inv .digits))))
 
