@@ -83,7 +83,7 @@ unfolding lowered
 lowered-heights p c = refl
 
 pub win-full : (p : Position) → isWin p ≡ fullOn (p .heights)
-unfolding isWin fullOn height
+unfolding isWin
 win-full p = refl
 
 pub valid-heights : (p : Position) → allOf 4 (λ s. leb (height p s) 13) ≡ validOn (p .heights)
