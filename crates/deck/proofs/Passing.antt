@@ -127,13 +127,15 @@ module _ (deal deck : List ℕ) (left : ℕ) (r : Right deal deck left) where
       let t : eqb (getD deck at 0) (getD deal (28 + k) 0) ≡ true = and-right (ltb at left) (eqb (getD deck at 0) (getD deal (28 + k) 0)) h in
       let e : getD deck at 0 ≡ getD deal (28 + k) 0 = eqb-true (getD deck at 0) (getD deal (28 + k) 0) t in
       let y : has deal deck left k ≡ true = yes-any left (λ j. eqb (getD deck j 0) (getD deal (28 + k) 0)) at i t in
-      let d : drop at cards ≡ getD deal (28 + k) 0 ∷ drop (at + 1) cards = drop-cons cards at 0 (omega (arith, cards-length)) ∙ ap₂ (λ (x n : ℕ). x ∷ drop n cards) (getD-take left deck at 0 i ∙ e) (sym (add-one at)) in
-      (y, record {
-      passed = rw (add-one k, count-snoc k (has deal deck left)) (ap₂ (λ (n : ℕ) (b : Bool). n + num b) (w .passed) (sym y));
-      low = omega arith;
-      order = ap (λ (xs : List ℕ). inOrder xs (drop (k + 1) stock)) (sym (ap (strike (getD deal (28 + k) 0)) d ∙ strike-hit (getD deal (28 + k) 0) (drop (at + 1) cards))) ∙ order-cons at k l (w .order);
-      past = λ j i a b c z. past j i a b c z (ltb j at) refl e;
-      })
+      let d : drop at cards ≡ getD deal (28 + k) 0 ∷ drop (at + 1) cards = drop-cons cards at 0 (omega (arith, cards-length)) ∙ ap₂ (λ (x n : ℕ). x ∷ drop n cards) (getD-take left deck at 0 i ∙ e) (sym (add-one at)) in (
+        y,
+        record {
+          passed = rw (add-one k, count-snoc k (has deal deck left)) (ap₂ (λ (n : ℕ) (b : Bool). n + num b) (w .passed) (sym y));
+          low = omega arith;
+          order = ap (λ (xs : List ℕ). inOrder xs (drop (k + 1) stock)) (sym (ap (strike (getD deal (28 + k) 0)) d ∙ strike-hit (getD deal (28 + k) 0) (drop (at + 1) cards))) ∙ order-cons at k l (w .order);
+          past = λ j i a b c z. past j i a b c z (ltb j at) refl e;
+        },
+      )
     where
       past : (j i : ℕ) → j < at + 1 → k + 1 ≤ i → i < 24 → getD deck j 0 ≡ getD deal (28 + i) 0 → (b : Bool) → ltb j at ≡ b → getD deck at 0 ≡ getD deal (28 + k) 0 → ⊥
       past j i a b c z true m e = w .past j i (ltb-true j at m) (omega arith) c z
@@ -141,13 +143,15 @@ module _ (deal deck : List ℕ) (left : ℕ) (r : Right deal deck left) where
           let s : j ≡ at = omega (arith, ltb-false j at m) in
           let n : k ≡ i = r .apart k i l c (sym e ∙ ap (λ (x : ℕ). getD deck x 0) (sym s) ∙ z) in
           omega arith
-  walk-step k at l w false h =
-      (no, record {
+  walk-step k at l w false h = (
+    no,
+    record {
       passed = rw (add-one k, count-snoc k (has deal deck left)) (ap₂ (λ (n : ℕ) (b : Bool). n + num b) (w .passed) (sym no));
       low = omega (arith, w .low);
       order = subst (λ (n : ℕ). inOrder (drop n cards) (drop (k + 1) stock) ≡ true) none ahead;
       past = λ j i a b c z. w .past j i (omega arith) (omega arith) c z;
-      })
+    },
+  )
     where
       none : at ≡ at + 0
       none = omega arith

@@ -18,6 +18,13 @@ module _ (len step : ℕ) (sp : 0 < step) where
       let w : n * step ≤ x + step - 1 = le-div-iff-mul-le sp .0 h in
       omega (arith, mul-comm step n)
 
+  -- what whole rounds leave is no longer than a round
+  pub round-low : (w m : ℕ) → w ≡ ceil step len → step * (m % (w + 1)) < len + step
+  round-low w m e =
+      let r : ℕ = m % (w + 1) in
+      let low : r < w + 1 = mod-lt m (omega arith) in
+      ceil-low r len (subst (λ (x : ℕ). r ≤ x) e (omega arith))
+
   ceil-high : (x : ℕ) → x ≤ ceil step x * step
   ceil-high x = omega (arith, div-add-mod' (x + step - 1) step, mod-lt (x + step - 1) sp)
 

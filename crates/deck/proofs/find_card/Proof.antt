@@ -52,9 +52,10 @@ unfolding inDeck deckCard
 returns c =
     let l = c .before .before .before .loop in
     let p = c .before .before .before .before .before .before .before .args .p in
-    let s = walk-step (p .deal) (p .deck) (p .left) (ordered (c .before .before .before .before)) (l .k) (l .at) (c .before .before .loop-test .taken) (l .inv .0) (c .before .stands .result) (sym (c .before .stands .ensures)) in
-    (sym (s .0) ∙ ap (λ (x : ℕ). anyOf (p .left) (λ j. eqb (getD (p .deck) j 0) x)) (c .if1 .taken),
-    found-at p (c .before .before .before .before .before .before .before .args .card) (l .k) (l .at) (c .before .before .loop-test .taken) (l .inv .0) (l .inv .2) (c .if1 .taken))
+    let s = walk-step (p .deal) (p .deck) (p .left) (ordered (c .before .before .before .before)) (l .k) (l .at) (c .before .before .loop-test .taken) (l .inv .0) (c .before .stands .result) (sym (c .before .stands .ensures)) in (
+      sym (s .0) ∙ ap (λ (x : ℕ). anyOf (p .left) (λ j. eqb (getD (p .deck) j 0) x)) (c .if1 .taken),
+      found-at p (c .before .before .before .before .before .before .before .args .card) (l .k) (l .at) (c .before .before .loop-test .taken) (l .inv .0) (l .inv .2) (c .if1 .taken),
+    )
 
 cast-at : tie.Need-cast-at Inv-loop μ-loop
 cast-at c = search needs
