@@ -1,14 +1,13 @@
 -- The deck's 24 cards gone through with the cards left beside them: at each place, is its card the next of those left?
 -- Assumes nothing.
 use mathlib.Core.Bool.{Bool, true, false, _&&_, cond, true≢false}
-use mathlib.Core.Logic.{⊎-elim}
 use mathlib.Core.Path.{_≡_, refl, sym, ap, ap₂, _∙_, subst}
 use mathlib.Core.List.{List, [], _∷_}
-use Prim.Native.Nat.{ℕ, zero, suc, _+_, _-_, _≤_, _<_, zero-le, suc-le-suc}
+use Prim.Native.Nat.{ℕ, _+_, _-_, _≤_, _<_, zero-le, suc-le-suc}
 use native.Mathlib.Numerals.{add-one}
 use native.Mathlib.Omega.{arith}
 use lib.Dec.{T, eqb, ltb}
-use lib.ListN.{length, getD, take, drop, length-take, length-drop}
+use lib.ListN.{length, getD, take, drop, length-drop}
 use lib.Seq.{length-take-le, drop-cons, getD-take, getD-drop}
 use mir.Val.{boolByte}
 use borrow.Author.Tests.{eqb-true, eq-eqb, ne-eqb, ltb-true, ltb-false, lt-ltb, le-ltb}
@@ -18,10 +17,10 @@ use Rattle.rules.specs.Bits.{num, anyOf, countOf, firstOf}
 use Rattle.rules.specs.Places.{cardAt, stockCard, deckCard, inDeck}
 use Rattle.rules.specs.Proper.{proper, deckRight, strike, inOrder}
 use Rattle.rules.specs.Answers.{stockPlace, findPlace}
-use Rattle.rules.proofs.Searches.{and-left, and-right, and-both, any-yes, yes-any, first-yes, first-least, first-le, count-snoc}
+use Rattle.rules.proofs.Searches.{and-left, and-right, and-both, any-yes, yes-any, first-yes, first-least, count-snoc}
 use Rattle.rules.proofs.VeilLaw.{is-false}
 use Rattle.rules.proofs.ProperLaw.{parts}
-use Rattle.rules.proofs.Facts.{Facts, facts, in-order}
+use Rattle.rules.proofs.Facts.{facts, in-order}
 
 -- the first where the test passes; none passes it
 first-at : (n : ℕ) (f : ℕ → Bool) (k : ℕ) → k < n → f k ≡ true → ((j : ℕ) → j < k → f j ≡ true → ⊥) → firstOf n f ≡ k

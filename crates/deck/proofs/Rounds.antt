@@ -1,10 +1,10 @@
 -- n deals in a row without n turns: those to the end, one to the front, and what whole rounds leave.
 -- Assumes nothing.
-use mathlib.Core.Path.{_≡_, refl, sym, ap, _∙_, subst}
+use mathlib.Core.Path.{_≡_, sym, ap, _∙_, subst}
 use Prim.Native.Nat.{ℕ, zero, suc, _+_, _-_, _*_, _/_, _%_, _≤_, _<_, min, zero-le}
 use native.Mathlib.Nat.{suc-mul, zero-mul, mul-comm, div-add-mod', le-div-iff-mul-le, mod-lt}
 use native.Mathlib.Omega.{arith}
-use Rattle.rules.specs.Dealing.{dealt, deals}
+use Rattle.rules.specs.Dealing.{deals}
 use Rattle.rules.proofs.DealsLaw.{dealt-end, dealt-on, deals-add}
 
 -- how many steps go into x, the last one begun counted

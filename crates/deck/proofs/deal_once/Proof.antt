@@ -1,6 +1,6 @@
 -- `deck::deal_once` meets its contract.
 -- Assumes nothing.
-use mathlib.Core.Path.{_≡_, sym, ap₂, _∙_}
+use mathlib.Core.Path.{sym, ap₂, _∙_}
 use Prim.Native.Nat.{ℕ}
 use Rattle.rules.specs.declared.Turned.{Turned}
 use Rattle.rules.specs.Dealing.{cursorOf}

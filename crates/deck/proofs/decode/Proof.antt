@@ -3,12 +3,11 @@
 use mathlib.Core.Bool.{true, false}
 use mathlib.Core.Logic.{⊎-elim}
 use mathlib.Core.List.{List}
-use mathlib.Core.Path.{_≡_, refl, sym, ap, _∙_}
+use mathlib.Core.Path.{_≡_, sym, ap, _∙_}
 use Prim.Native.Nat.{ℕ, _+_, _-_, _≤_, _<_}
 use native.Mathlib.Omega.{arith}
 use Rattle.bits.specs.Bit.{bit, countOf}
 use lib.ListN.{getD, set}
-use Rattle.rules.specs.Code.{deckOf}
 use Rattle.rules.proofs.Searches.{count-le}
 use Rattle.deck.proofs.Slots.{filled, fill-start, fill-turn, fill-end}
 use Rattle.deck.proofs.Fields.{placed, placed-length, placed-at, count-none, count-next, count-below, is-set, is-clear}

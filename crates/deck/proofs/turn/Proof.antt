@@ -1,6 +1,6 @@
 -- `deck::turn` meets its contract.
 -- Assumes nothing.
-use mathlib.Core.Path.{_≡_, sym, _∙_}
+use mathlib.Core.Path.{sym, _∙_}
 use Rattle.rules.specs.Dealing.{cursorOf}
 use Rattle.deck.proofs.Cursors.{offset-is, refused-stays, accepted-turns, in-range}
 use borrow.Author.Needs.{needs}
