@@ -25,9 +25,6 @@ answer-is c = go (cursorRefusal c)
     go zero = refl
     go (suc r) = refl
 
-pub offset-is : (c : Cursor) → dealOnceAnswer c .cursor .offset ≡ turnedTo c
-offset-is c = ap (λ (t : Turned). t .cursor .offset) (answer-is c)
-
 pub refusal-is : (c : Cursor) → dealOnceAnswer c .refusal ≡ cursorRefusal c
 refusal-is c = ap (λ (t : Turned). t .refusal) (answer-is c)
 
