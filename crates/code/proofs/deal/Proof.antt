@@ -7,7 +7,7 @@ use Prim.Native.Nat.{ℕ}
 use native.Mathlib.Omega.{arith}
 use lib.ListN.{getD}
 use Rattle.rules.specs.Code.{fresh}
-use Rattle.rules.specs.Answers.{dealAnswer}
+use Rattle.rules.specs.Answers.{dealRefusal, dealAnswer}
 use Rattle.rules.proofs.Refusing.{Dealt, deal-passed}
 use Rattle.proper.proofs.DealRight.{cards-low}
 use Rattle.code.proofs.Answered.{is-refused, is-started}
@@ -40,7 +40,9 @@ returns-2 : tie.Need-returns-2
 unfolding dealAnswer
 returns-2 c =
     let b = c .before .before in
-    is-started _ _ _ (sym (b .before .deal-refusal .ensures) ∙ b .if1 .left) (c .fresh .ensures ∙ ap (λ (d : List ℕ). fresh d _) (c .before .as-deal .ensures))
+    let s = b .before .before .before .args in
+    is-started (dealRefusal (s .cards .now) (s .step)) (fresh (s .cards .now) (s .step)) _ (sym (b .before .deal-refusal .ensures) ∙ b .if1 .left)
+    (c .fresh .ensures ∙ ap (λ (d : List ℕ). fresh d (s .step)) (c .before .as-deal .ensures))
 
 pub deal-spec : {M : Type 1} → statement M
 deal-spec =
