@@ -1,0 +1,3 @@
+pub mod Suits
+pub mod Bytes
+pub mod OnCards
