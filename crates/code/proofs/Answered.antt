@@ -5,12 +5,7 @@ use Prim.Native.Nat.{ℕ, zero, suc}
 use Rattle.rules.specs.declared.Position.{Position}
 use Rattle.rules.specs.declared.Started.{Started}
 use Rattle.rules.specs.Code.{blank}
-use Rattle.rules.specs.Refusals.{accepted}
-use Rattle.code.specs.Starts.{refusedBy}
-
--- the position p, where the refusal r is 0
-abbrev pub startedBy : ℕ → Position → Started
-startedBy r p = accepted r (record { refusal = 0; position = p }) (record { refusal = r; position = blank })
+use Rattle.code.specs.Starts.{refusedBy, startedBy}
 
 pub is-refused : (n r : ℕ) (p : Position) → n ≡ r → (n ≡ 0 → ⊥) → refusedBy n ≡ startedBy r p
 unfolding refusedBy

@@ -2,3 +2,4 @@ pub mod Copies
 pub mod DealTest
 pub mod FreshMade
 pub mod Answered
+pub mod Arranging

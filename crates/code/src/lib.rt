@@ -4,7 +4,7 @@ ghost use Prim.Native.Nat.{ℕ, _<_};
 ghost use lib.ListN.{getD, length, take, drop};
 ghost use Rattle.rules.specs.Code.{fresh as freshOf, blank as blankOne};
 ghost use Rattle.rules.specs.Answers.{dealRefusal, dealAnswer};
-ghost use Rattle.code.specs.Starts.{refusedBy};
+ghost use Rattle.code.specs.Starts.{refusedBy, Ranged, setsOf, arrangeAnswer};
 use rules::Position;
 use rules::Started;
 
@@ -15,6 +15,8 @@ const N_PILE_CARDS: usize = 28;
 const N_DECK_CARDS: usize = 24;
 
 const MAX_STEP: u8 = 24;
+
+const N_PILES: u32 = 7;
 
 // The position that a refused deal or resume returns: all numbers 0.
 pub fn blank() -> Position
@@ -125,5 +127,55 @@ pub fn deal(step: u8, cards: &[u8]) -> Started
     Started {
         refusal: 0,
         position: fresh(step, as_deal(cards)),
+    }
+}
+
+// The cards by where they lie.
+struct Sets {
+    foundation: u64,
+    deck: u64,
+    buried: u64,
+    heads: u64,
+}
+
+fn sets_of(p: Position) -> Sets
+    requires { ⌜ Ranged p ⌝ }
+    ensures { λ r. ⌜ r ≡ setsOf p ⌝ }
+{
+    let deal = p.deal;
+    let counts = p.counts;
+    let heights = p.heights;
+    let deck = p.deck;
+    let left = p.left;
+    Sets {
+        foundation: proper::foundation_mask(&heights),
+        deck: proper::cards_from(&deck, 0, left as usize),
+        buried: proper::buried_mask(&deal, &counts),
+        heads: proper::head_mask(&deal, &counts),
+    }
+}
+
+// Refusals 8 and 9, and else the position with its visible mask: every card that is in none of foundation, deck, buried.
+fn arranged(mut p: Position) -> Started
+    requires { ⌜ Ranged p ⌝ }
+    ensures { λ r. ⌜ r ≡ arrangeAnswer p ⌝ }
+{
+    let s = sets_of(p);
+    let counts = p.counts;
+    if s.foundation & (s.deck | s.buried | s.heads) != 0 {
+        return refused(rules::OVERLAPPING);
+    }
+    let visible = proper::FULL & !(s.foundation | s.deck | s.buried);
+    let free = visible & !s.heads;
+    if !proper::pair_rule(free, visible) {
+        return refused(rules::UNARRANGED);
+    }
+    if proper::count_heads(&counts) + proper::kings(free) > N_PILES {
+        return refused(rules::UNARRANGED);
+    }
+    p.visible = visible;
+    Started {
+        refusal: 0,
+        position: p,
     }
 }
