@@ -16,7 +16,7 @@ use Rattle.rules.specs.Proper.{areCards, areDifferent, stepRight}
 use Rattle.rules.specs.Answers.{dealRefusal}
 use Rattle.rules.proofs.Searches.{all-yes, yes-all, yes-any}
 use Rattle.rules.proofs.VeilLaw.{is-false, same-test}
-use Rattle.proper.specs.Masks.{cardsFrom}
+use Rattle.rules.specs.Hidden.{cardsFrom}
 use Rattle.proper.proofs.DealRight.{deal-is, small-of, cards-low}
 use Rattle.proper.proofs.Sets.{cards-are}
 

@@ -1,15 +1,17 @@
 -- What the parts of a deal and a resume give.
 use mathlib.Core.Bool.{not, _&&_}
-use Prim.Native.Nat.{ℕ, _+_, _≤_, _<_}
+use Prim.Native.Nat.{ℕ, _%_, _/_, _^_, _≤_, _<_}
 use lib.ListN.{getD}
 use Rattle.rules.specs.declared.Position.{Position}
 use Rattle.rules.specs.declared.Started.{Started}
 use Rattle.rules.specs.Bits.{maskOf}
 use Rattle.rules.specs.Places.{isHead, isBuried, inDeck, onFoundation}
+use Rattle.rules.specs.Hidden.{CardsFit, CountsFit}
+use Rattle.code.specs.declared.Fields.{Fields}
 use Rattle.code.specs.declared.Sets.{Sets}
 use Rattle.rules.specs.Proper.{pairRule, sevenRule}
 use Rattle.rules.specs.Play.{withVisible}
-use Rattle.rules.specs.Code.{workedOut, blank}
+use Rattle.rules.specs.Code.{codePiles, codeOffset, workedOut, blank}
 use Rattle.rules.specs.Refusals.{_refuses_else_, accepted, overlapping, unarranged}
 use Rattle.rules.specs.Answers.{overlaps}
 
@@ -21,10 +23,14 @@ refusedBy n = record { refusal = n; position = blank }
 abbrev pub startedBy : ℕ → Position → Started
 startedBy r p = accepted r (record { refusal = 0; position = p }) (record { refusal = r; position = blank })
 
+-- the four fields of a code: "Bits 0-15", "Bits 16-31", "Bits 32-55", "Bits 56-63"
+unfoldable pub fieldsOf : ℕ → Fields
+fieldsOf x = record { heights = x % 2 ^ 16; piles = codePiles x; deck = x / 2 ^ 32 % 2 ^ 24; offset = codeOffset x }
+
 -- the numbers of a position are in their ranges, and the deck's cards left are cards
 pub record Ranged (p : Position) : Type 0 where
-  pub cards : (k : ℕ) → k < 52 → getD (p .deal) k 0 < 52
-  pub counts : (i : ℕ) → i < 7 → getD (p .counts) i 0 ≤ i + 1
+  pub cards : CardsFit (p .deal)
+  pub counts : CountsFit (p .counts)
   pub heights : (s : ℕ) → s < 4 → getD (p .heights) s 0 ≤ 13
   pub left : p .left ≤ 24
   pub deck : (k : ℕ) → k < p .left → getD (p .deck) k 0 < 52

@@ -1,10 +1,12 @@
 // A fresh deal, the save code, and the position that a code stands for.
 ghost use mathlib.Core.Path.{_≡_};
-ghost use Prim.Native.Nat.{ℕ, _<_};
-ghost use lib.ListN.{getD, length, take, drop};
-ghost use Rattle.rules.specs.Code.{fresh as freshOf, blank as blankOne};
-ghost use Rattle.rules.specs.Answers.{dealRefusal, dealAnswer};
-ghost use Rattle.code.specs.Starts.{refusedBy, Ranged, setsOf, arrangeAnswer};
+ghost use lib.Dec.{T};
+ghost use lib.ListN.{length, take, drop};
+ghost use Rattle.rules.specs.Hidden.{CardsFit};
+ghost use Rattle.rules.specs.Proper.{proper};
+ghost use Rattle.rules.specs.Code.{code as codeOf, fresh as freshOf, blank as blankOne};
+ghost use Rattle.rules.specs.Answers.{dealRefusal, dealAnswer, resumeAnswer};
+ghost use Rattle.code.specs.Starts.{refusedBy, fieldsOf, Ranged, setsOf, arrangeAnswer};
 use rules::Position;
 use rules::Started;
 
@@ -60,7 +62,7 @@ pub fn deal_refusal(step: u8, cards: &[u8]) -> u8
     if !proper::all_small(cards) {
         return rules::NO_CARD;
     }
-    let seen = proper::cards_from(cards, 0, N_CARDS);
+    let seen = hidden::cards_from(cards, 0, N_CARDS);
     if seen > proper::FULL {
         return rules::NO_CARD;
     }
@@ -100,7 +102,7 @@ fn stock(cards: &[u8]) -> [u8; 24]
 
 // A fresh deal: every pile whole, nothing on the foundations, the whole deck; visible are the heads.
 pub fn fresh(step: u8, deal: [u8; 52]) -> Position
-    requires { ⌜ ((k : ℕ) → k < 52 → getD deal k 0 < 52) ⌝ }
+    requires { ⌜ CardsFit deal ⌝ }
     ensures { λ r. ⌜ r ≡ freshOf deal step ⌝ }
 {
     let counts = [1u8, 2, 3, 4, 5, 6, 7];
@@ -112,7 +114,7 @@ pub fn fresh(step: u8, deal: [u8; 52]) -> Position
         deck: stock(&deal),
         left: 24,
         offset: 0,
-        visible: proper::head_mask(&deal, &counts),
+        visible: hidden::head_mask(&deal, &counts),
     }
 }
 
@@ -127,6 +129,44 @@ pub fn deal(step: u8, cards: &[u8]) -> Started
     Started {
         refusal: 0,
         position: fresh(step, as_deal(cards)),
+    }
+}
+
+// Where the fields of a save code begin: the heights at 0, then the piles, the deck, the offset.
+const PILES_AT: u32 = 16;
+const DECK_AT: u32 = 32;
+const OFFSET_AT: u32 = 56;
+
+// The save code.
+pub fn encode(p: Position) -> u64
+    requires { ⌜ T (proper p) ⌝ }
+    ensures { λ r. ⌜ r ≡ codeOf p ⌝ }
+{
+    let heights = p.heights;
+    let counts = p.counts;
+    let offset = deck::normalized_offset(p.left, p.step, p.offset);
+    stack::encode(heights) as u64
+        | (hidden::encode(&counts) as u64) << PILES_AT
+        | (deck::encode(p) as u64) << DECK_AT
+        | (offset as u64) << OFFSET_AT
+}
+
+// The four fields of a save code.
+struct Fields {
+    heights: u16,
+    piles: u16,
+    deck: u32,
+    offset: u8,
+}
+
+fn fields_of(code: u64) -> Fields
+    ensures { λ r. ⌜ r ≡ fieldsOf code ⌝ }
+{
+    Fields {
+        heights: (code & 0xFFFF) as u16,
+        piles: ((code >> PILES_AT) & 0xFFFF) as u16,
+        deck: ((code >> DECK_AT) & 0xFF_FFFF) as u32,
+        offset: (code >> OFFSET_AT) as u8,
     }
 }
 
@@ -149,9 +189,9 @@ fn sets_of(p: Position) -> Sets
     let left = p.left;
     Sets {
         foundation: proper::foundation_mask(&heights),
-        deck: proper::cards_from(&deck, 0, left as usize),
-        buried: proper::buried_mask(&deal, &counts),
-        heads: proper::head_mask(&deal, &counts),
+        deck: hidden::cards_from(&deck, 0, left as usize),
+        buried: hidden::buried_mask(&deal, &counts),
+        heads: hidden::head_mask(&deal, &counts),
     }
 }
 
@@ -178,4 +218,45 @@ fn arranged(mut p: Position) -> Started
         refusal: 0,
         position: p,
     }
+}
+
+// The public resume: the position that a code stands for, or the first refusal, 1 to 9, and the blank one. No field is taken modulo.
+pub fn resume(step: u8, cards: &[u8], code: u64) -> Started
+    ensures { λ r. ⌜ r ≡ resumeAnswer (now (cards .entry)) step code ⌝ }
+{
+    let number = deal_refusal(step, cards);
+    if number != 0 {
+        return refused(number);
+    }
+    let fields = fields_of(code);
+    let heights = stack::decode(fields.heights);
+    if !stack::is_valid(heights) {
+        return refused(rules::WRONG_HEIGHT);
+    }
+    let piles = hidden::decode(fields.piles);
+    if !piles.fits {
+        return refused(rules::WRONG_PILES);
+    }
+    let counts = piles.counts;
+    let deal = as_deal(cards);
+    let rest = deck::decode(deal, fields.deck);
+    let deck = rest.deck;
+    let left = rest.left;
+    let offset = fields.offset;
+    if offset > left {
+        return refused(rules::WRONG_OFFSET);
+    }
+    if deck::normalized_offset(left, step, offset) != offset {
+        return refused(rules::WRONG_OFFSET);
+    }
+    arranged(Position {
+        deal: deal,
+        step: step,
+        counts: counts,
+        heights: heights,
+        deck: deck,
+        left: left,
+        offset: offset,
+        visible: 0,
+    })
 }

@@ -152,7 +152,7 @@ pub fn compute_visible_piles(p: Position, out: &mut [u8]) -> [u8; 7]
         let a = N_RANKS * i;
         let n = counts[i] as usize;
         if 0 < n {
-            let at = rules::pile_start(i) as usize + n - 1;
+            let at = card::pile_start(i) as usize + n - 1;
             lens[i] = fill_run(&mut out[a..a + N_RANKS], vis, free, deal[at]);
         } else {
             let f = fill_empty(&mut out[a..a + N_RANKS], vis, free, from);

@@ -4,7 +4,8 @@ use native.Mathlib.Omega.{arith}
 use Rattle.rules.specs.Bits.{maskOf}
 use Rattle.rules.specs.Places.{count, height, cardAt, pileCard, deckCard, isBuried, hasHead, head, isHead, inDeck, onFoundation}
 use Rattle.rules.proofs.Shape.{shape}
-use Rattle.proper.specs.Masks.{stacked, buriedIn, headIn}
+use Rattle.rules.specs.Hidden.{buriedIn, headIn}
+use Rattle.proper.specs.Masks.{stacked}
 use Rattle.proper.proofs.Sets.{cards-are}
 use Rattle.code.specs.Starts.{setsOf}
 use Rattle.code.proofs.sets_of.Statement.{statement}

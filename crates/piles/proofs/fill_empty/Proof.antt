@@ -2,7 +2,7 @@
 -- Assumes nothing.
 use mathlib.Core.Logic.{⊎-elim}
 use mathlib.Core.Path.{_≡_, sym, _∙_, subst}
-use Prim.Native.Nat.{_-_}
+use Prim.Native.Nat.{_-_, _<_}
 use native.Mathlib.Omega.{arith}
 use lib.Dec.{lit≤}
 use Rattle.piles.specs.declared.Next.the-variants.{Suit, None}
@@ -35,7 +35,9 @@ loop-less c = search needs
 
 loop-again : tie.Need-loop-again Inv-loop μ-loop
 loop-again c =
-    c .before .before .before .loop .inv ∙ kings-step _ _ (c .before .before .if1 .left) ∙ rw (← c .before .has .ensures, c .if2 .left)
+    let s = c .before .before .before .before .before .args in
+    let l = c .before .before .before .loop in
+    l .inv ∙ kings-step (s .free) (l .s) (omega (arith, c .before .before .if1 .left)) ∙ rw (← c .before .has .ensures, c .if2 .left)
 
 -- where the search ends
 found : (c : tie.Joined1 Inv-loop μ-loop) → Yields (c .before .before .before .args .free) (c .before .before .before .args .from) (c .if1 .next)
@@ -43,10 +45,10 @@ found c =
     let s = c .before .before .before .args in
     let l = c .before .loop in
     ⊎-elim
-    (λ w. subst (Yields (s .free) (s .from)) (sym (w .1)) (l .inv ∙ kings-end _ _ (w .0 .taken)))
+    (λ w. subst (Yields (s .free) (s .from)) (sym (w .1)) (l .inv ∙ kings-end (s .free) (l .s) (omega (arith, w .0 .taken))))
     (λ w.
-    subst (Yields (s .free) (s .from)) (sym (w .3))
-    (w .0 .left, l .inv ∙ kings-step _ _ (w .0 .left) ∙ rw (← w .1 .ensures, w .2 .taken)))
+    let low : l .s < 4 = omega (arith, w .0 .left) in
+    subst (Yields (s .free) (s .from)) (sym (w .3)) (low, l .inv ∙ kings-step (s .free) (l .s) low ∙ rw (← w .1 .ensures, w .2 .taken)))
     (c .if1 .came)
 
 -- the king that was found; or that there is none
