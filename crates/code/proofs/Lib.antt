@@ -3,3 +3,5 @@ pub mod DealTest
 pub mod FreshMade
 pub mod Answered
 pub mod Arranging
+pub mod Parts
+pub mod Ends

@@ -10,12 +10,6 @@ use Rattle.proper.proofs.Sets.{cards-are}
 use Rattle.code.specs.Starts.{setsOf}
 use Rattle.code.proofs.sets_of.Statement.{statement}
 use Rattle.code.proofs.sets_of.Tie as tie
-use Rattle.code.proofs.sets_of.Reads as reads
-use Rattle.code.proofs.sets_of.Lts as lts
-use Rattle.proper.proofs.buried_mask.Reads as buried-mask-reads
-use Rattle.proper.proofs.cards_from.Reads as cards-from-reads
-use Rattle.proper.proofs.foundation_mask.Reads as foundation-mask-reads
-use Rattle.proper.proofs.head_mask.Reads as head-mask-reads
 
 -- src/lib.rt:151:21
 foundation-mask-requires : tie.Need-foundation-mask-requires
