@@ -12,13 +12,16 @@ use rules::Started;
 
 const N_CARDS: usize = 52;
 
+const N_PILES: u32 = 7;
+
+const N_SUITS: usize = 4;
+
 // The piles take the first 28 cards of a deal, the deck the other 24.
 const N_PILE_CARDS: usize = 28;
+
 const N_DECK_CARDS: usize = 24;
 
 const MAX_STEP: u8 = 24;
-
-const N_PILES: u32 = 7;
 
 // The position that a refused deal or resume returns: all numbers 0.
 pub fn blank() -> Position
@@ -27,8 +30,8 @@ pub fn blank() -> Position
     Position {
         deal: [0u8; N_CARDS],
         step: 0,
-        counts: [0u8; 7],
-        heights: [0u8; 4],
+        counts: [0u8; N_PILES as usize],
+        heights: [0u8; N_SUITS],
         deck: [0u8; N_DECK_CARDS],
         left: 0,
         offset: 0,
@@ -110,9 +113,9 @@ pub fn fresh(step: u8, deal: [u8; 52]) -> Position
         deal: deal,
         step: step,
         counts: counts,
-        heights: [0u8; 4],
+        heights: [0u8; N_SUITS],
         deck: stock(&deal),
-        left: 24,
+        left: N_DECK_CARDS as u8,
         offset: 0,
         visible: hidden::head_mask(&deal, &counts),
     }
@@ -122,9 +125,9 @@ pub fn fresh(step: u8, deal: [u8; 52]) -> Position
 pub fn deal(step: u8, cards: &[u8]) -> Started
     ensures { λ r. ⌜ r ≡ dealAnswer (now (cards .entry)) step ⌝ }
 {
-    let number = deal_refusal(step, cards);
-    if number != 0 {
-        return refused(number);
+    let wrong = deal_refusal(step, cards);
+    if wrong != 0 {
+        return refused(wrong);
     }
     Started {
         refusal: 0,
@@ -134,8 +137,15 @@ pub fn deal(step: u8, cards: &[u8]) -> Started
 
 // Where the fields of a save code begin: the heights at 0, then the piles, the deck, the offset.
 const PILES_AT: u32 = 16;
+
 const DECK_AT: u32 = 32;
+
 const OFFSET_AT: u32 = 56;
+
+// The lowest 16 and the lowest 24 bits.
+const LOW_16: u64 = 0xFFFF;
+
+const LOW_24: u64 = 0xFF_FFFF;
 
 // The save code.
 pub fn encode(p: Position) -> u64
@@ -163,9 +173,9 @@ fn fields_of(code: u64) -> Fields
     ensures { λ r. ⌜ r ≡ fieldsOf code ⌝ }
 {
     Fields {
-        heights: (code & 0xFFFF) as u16,
-        piles: ((code >> PILES_AT) & 0xFFFF) as u16,
-        deck: ((code >> DECK_AT) & 0xFF_FFFF) as u32,
+        heights: (code & LOW_16) as u16,
+        piles: ((code >> PILES_AT) & LOW_16) as u16,
+        deck: ((code >> DECK_AT) & LOW_24) as u32,
         offset: (code >> OFFSET_AT) as u8,
     }
 }

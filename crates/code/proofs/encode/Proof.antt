@@ -1,3 +1,5 @@
+-- `code::encode` meets its contract.
+-- Assumes nothing.
 use borrow.Author.Needs.{needs}
 use lib.Dec.{T}
 use Rattle.bits.proofs.Tables.{T-true}
@@ -15,64 +17,49 @@ use Rattle.stack.proofs.encode.Reads as encode-reads′′
 ranges : (p : Position) → T (proper p) → Numbers p
 ranges p t = numbers p (parts p (T-true (proper p) t) .numbers)
 
--- src/lib.rt:147:9
 normalized-offset-requires : tie.Need-normalized-offset-requires
 normalized-offset-requires c κs = step-low _ (ranges (c .before .before .args .p) (c .before .before .pre) .step)
 
--- src/lib.rt:148:5
 encode-requires : tie.Need-encode-requires
 encode-requires c κs = search needs
 
--- src/lib.rt:148:5
 cast-result : tie.Need-cast-result
 cast-result c = search needs
 
--- src/lib.rt:149:12
 encode-requires-2 : tie.Need-encode-requires-2
 unfolding count
 encode-requires-2 c κs = ranges (c .before .before .before .before .before .args .p) (c .before .before .before .before .before .pre) .counts
 
--- src/lib.rt:149:12
 cast-result-2 : tie.Need-cast-result-2
 cast-result-2 c = search needs
 
--- src/lib.rt:149:47
 cast-result-3 : tie.Need-cast-result-3
 cast-result-3 c = search needs
 
--- src/lib.rt:149:11
 shl-result : tie.Need-shl-result
 shl-result c = search needs
 
--- src/lib.rt:150:12
 encode-requires-3 : tie.Need-encode-requires-3
 encode-requires-3 c κs = search needs
 
--- src/lib.rt:150:12
 cast-result-4 : tie.Need-cast-result-4
 cast-result-4 c = search needs
 
--- src/lib.rt:150:39
 cast-result-5 : tie.Need-cast-result-5
 cast-result-5 c = search needs
 
--- src/lib.rt:150:11
 shl-result-2 : tie.Need-shl-result-2
 shl-result-2 c = search needs
 
--- src/lib.rt:151:12
 cast-result-6 : tie.Need-cast-result-6
 cast-result-6 c = search needs
 
--- src/lib.rt:151:30
 cast-result-7 : tie.Need-cast-result-7
 cast-result-7 c = search needs
 
--- src/lib.rt:151:11
 shl-result-3 : tie.Need-shl-result-3
 shl-result-3 c = search needs
 
--- src/lib.rt:141:1
 returns : tie.Need-returns
 returns c =
     let b = c .before .before .before .before .before .before .before in

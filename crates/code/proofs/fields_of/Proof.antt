@@ -1,3 +1,5 @@
+-- `code::fields_of` meets its contract.
+-- Assumes nothing.
 use borrow.Author.Needs.{needs}
 use Prim.Native.Nat.{_/_, _^_}
 use native.Mathlib.Omega.{arith}
@@ -7,47 +9,36 @@ use Rattle.code.specs.Starts.{fieldsOf}
 use Rattle.code.proofs.fields_of.Statement.{statement}
 use Rattle.code.proofs.fields_of.Tie as tie
 
--- src/lib.rt:166:18
 cast-t3 : tie.Need-cast-t3
 cast-t3 c = omega (arith, and-le-r (c .args .code) 65535)
 
--- src/lib.rt:167:26
 cast-t4 : tie.Need-cast-t4
 cast-t4 c = search needs
 
--- src/lib.rt:167:18
 shr-t5 : tie.Need-shr-t5
 shr-t5 c = search needs
 
--- src/lib.rt:167:16
 cast-t7 : tie.Need-cast-t7
 cast-t7 c = omega (arith, and-le-r (c .args .code / 65536) 65535)
 
--- src/lib.rt:168:25
 cast-t8 : tie.Need-cast-t8
 cast-t8 c = search needs
 
--- src/lib.rt:168:17
 shr-t9 : tie.Need-shr-t9
 shr-t9 c = search needs
 
--- src/lib.rt:168:15
 cast-t11 : tie.Need-cast-t11
 cast-t11 c = omega (arith, and-le-r (c .args .code / 4294967296) 16777215)
 
--- src/lib.rt:169:26
 cast-t12 : tie.Need-cast-t12
 cast-t12 c = search needs
 
--- src/lib.rt:169:18
 shr-t13 : tie.Need-shr-t13
 shr-t13 c = search needs
 
--- src/lib.rt:169:17
 cast-t14 : tie.Need-cast-t14
 cast-t14 c = search needs
 
--- src/lib.rt:162:1
 returns : tie.Need-returns
 unfolding fieldsOf codePiles codeOffset
 returns c = rw (and-mask (c .args .code) 16, and-mask (c .args .code / 2 ^ 16) 16, and-mask (c .args .code / 2 ^ 32) 24)

@@ -16,6 +16,9 @@ slice-aggregate-stock c = search needs
 stock-requires : tie.Need-stock-requires
 stock-requires c κs = search needs
 
+cast-t11 : tie.Need-cast-t11
+cast-t11 c = search needs
+
 head-mask-requires : tie.Need-head-mask-requires
 head-mask-requires c κs = (c .before .before .before .before .pre, whole-fits)
 
@@ -23,4 +26,4 @@ returns : tie.Need-returns
 returns c = fresh-made _ _ _ _ (deal-long c) (c .before .before .before .stock .ensures) (c .head-mask .ensures)
 
 pub fresh-spec : {M : Type 1} → statement M
-fresh-spec = tie.close (tie.spec slice-aggregate-stock stock-requires head-mask-requires returns)
+fresh-spec = tie.close (tie.spec slice-aggregate-stock stock-requires cast-t11 head-mask-requires returns)

@@ -1,3 +1,5 @@
+-- `code::sets_of` meets its contract.
+-- Assumes nothing.
 use borrow.Author.Needs.{needs}
 use mathlib.Core.Path.{_≡_, _∙_}
 use native.Mathlib.Omega.{arith}
@@ -11,33 +13,26 @@ use Rattle.code.specs.Starts.{setsOf}
 use Rattle.code.proofs.sets_of.Statement.{statement}
 use Rattle.code.proofs.sets_of.Tie as tie
 
--- src/lib.rt:151:21
 foundation-mask-requires : tie.Need-foundation-mask-requires
 foundation-mask-requires c κs = search needs
 
--- src/lib.rt:152:34
 slice-aggregate-cards-from : tie.Need-slice-aggregate-cards-from
 slice-aggregate-cards-from c = search needs
 
--- src/lib.rt:152:44
 cast-cards-from : tie.Need-cast-cards-from
 cast-cards-from c = search needs
 
--- src/lib.rt:152:15
 cards-from-requires : tie.Need-cards-from-requires
 cards-from-requires c κs =
     let b = c .before .before .before .before .before .before .before in
     omega (arith, b .pre .left, shape (b .args .p) _ (b .good .0) .deck)
 
--- src/lib.rt:153:17
 buried-mask-requires : tie.Need-buried-mask-requires
 buried-mask-requires c κs = search needs
 
--- src/lib.rt:154:16
 head-mask-requires : tie.Need-head-mask-requires
 head-mask-requires c κs = search needs
 
--- src/lib.rt:141:1
 returns : tie.Need-returns
 unfolding setsOf onFoundation height inDeck deckCard isBuried isHead hasHead head pileCard cardAt count stacked buriedIn headIn
 returns c =
