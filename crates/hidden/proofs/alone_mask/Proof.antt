@@ -1,0 +1,93 @@
+-- `hidden::alone_mask` meets its contract.
+-- Assumes nothing.
+use borrow.Author.Needs.{needs}
+use mathlib.Core.Bool.{Bool, true, false, _&&_}
+use mathlib.Core.Path.{_≡_, refl, sym, ap, _∙_}
+use Prim.Native.Nat.{ℕ, _+_, _-_, _*_, _≤_, _<_}
+use native.Mathlib.Omega.{arith}
+use lib.Dec.{eqb, ltb, leb}
+use lib.ListN.{getD}
+use Rattle.rules.specs.Bits.{maskOf, anyOf, allOf}
+use Rattle.rules.specs.Hidden.{placed, headOf, bareOf, headIn, aloneIn, buriedIn, lockedIn, headPile, barePile, allUp, sumOf, downCards}
+use Rattle.hidden.proofs.Collected.{picked, picked-step, fronts, fronts-step, some-le, less-one, last-place, in-deal}
+use Rattle.hidden.proofs.alone_mask.Statement.{statement}
+use Rattle.hidden.proofs.alone_mask.Tie as tie
+use Rattle.hidden.proofs.alone_mask.Reads as reads
+use Rattle.hidden.proofs.alone_mask.Lts as lts
+use Rattle.card.proofs.pile_start.Reads as pile-start-reads
+
+abbrev Inv-loop : tie.InvT-loop
+Inv-loop deal counts mask₀ i₀ mask i = (i ≤ 7) × (mask ≡ picked (λ j. eqb (getD counts j 0) 1) (λ j. placed deal j 0) i)
+
+abbrev μ-loop : tie.MeasureT-loop
+μ-loop deal counts mask₀ i₀ mask i = 7 - i
+
+-- the place that is read, and the card there
+place : (c : tie.After-pile-start Inv-loop μ-loop) → c .pile-start .result < 52
+place c = omega (arith, in-deal (c .before .before .loop .i) 1 (c .pile-start .result) (c .before .loop-test .taken) (omega arith) (c .pile-start .ensures))
+
+card : (c : tie.After-pile-start Inv-loop μ-loop) → getD (c .before .before .before .args .deal .now) (c .pile-start .result) 0 < 52
+card c = c .before .before .before .pre .0 (c .pile-start .result) (place c)
+
+loop-holds : tie.Need-loop-holds Inv-loop μ-loop
+unfolding maskOf anyOf
+loop-holds c = (omega arith, refl)
+
+pile-start-requires : tie.Need-pile-start-requires Inv-loop μ-loop
+pile-start-requires c κs = search needs
+
+cast-at : tie.Need-cast-at Inv-loop μ-loop
+cast-at c = search needs
+
+element-copy-out-mask : tie.Need-element-copy-out-mask Inv-loop μ-loop
+element-copy-out-mask c = search needs
+
+cast-mask : tie.Need-cast-mask Inv-loop μ-loop
+cast-mask c = search needs
+
+element-copy-out-mask-2 : tie.Need-element-copy-out-mask-2 Inv-loop μ-loop
+element-copy-out-mask-2 c = omega (arith, place (c .before))
+
+cast-mask-2 : tie.Need-cast-mask-2 Inv-loop μ-loop
+cast-mask-2 c = omega (arith, card (c .before .before))
+
+shl-mask : tie.Need-shl-mask Inv-loop μ-loop
+shl-mask c = omega (arith, card (c .before .before))
+
+add-i : tie.Need-add-i Inv-loop μ-loop
+add-i c = search needs
+
+loop-less : tie.Need-loop-less Inv-loop μ-loop
+loop-less c = search needs
+
+loop-again : tie.Need-loop-again Inv-loop μ-loop
+loop-again c = 
+    let b = c .before .before .before .before in
+    let d = b .before .args .deal .now in
+    (omega arith, rw (b .loop .inv .1) (picked-step (λ j. eqb (getD (b .before .args .counts .now) j 0) 1) (λ j. placed d j 0) (b .loop .i) _ (card (c .before .before))
+    (λ t. ap (λ (k : ℕ). getD d k 0) (omega (arith, c .before .before .pile-start .ensures)))))
+
+returns : tie.Need-returns Inv-loop μ-loop
+unfolding aloneIn
+returns c = 
+    let e : c .before .loop .i ≡ 7 = omega arith in
+    rw e at (c .before .loop .inv .1)
+
+pub alone-mask-spec : {M : Type 1} → statement M
+alone-mask-spec =
+    tie.close
+    (tie.spec
+    Inv-loop
+    μ-loop
+    loop-holds
+    pile-start-requires
+    cast-at
+    element-copy-out-mask
+    cast-mask
+    element-copy-out-mask-2
+    cast-mask-2
+    shl-mask
+    add-i
+    loop-less
+    loop-again
+    returns)

@@ -1,0 +1,123 @@
+-- What is said of a deal and its counts alone is said of the position: the masks, the card turned up, the piles found, the turns.
+-- Assumes nothing.
+use mathlib.Core.Bool.{Bool, true, false, _&&_, _||_, cond}
+use mathlib.Core.Path.{_≡_, refl, sym, ap, ap₂, _∙_}
+use mathlib.Core.List.{List}
+use Prim.Native.Nat.{ℕ, _+_, _-_, _≤_, _<_}
+use native.Mathlib.Omega.{arith}
+use lib.Dec.{eqb, ltb, leb}
+use lib.ListN.{getD, set, length}
+use lib.Seq.{getD-set-same}
+use borrow.Author.Tests.{eqb-true, eq-eqb, ltb-true, lt-ltb, leb-true, le-leb}
+use Rattle.rules.specs.declared.Position.{Position}
+use Rattle.rules.specs.declared.TurnedUp.{TurnedUp}
+use Rattle.rules.specs.declared.TurnedUp.the-variants.{Nothing, Emptied, Card}
+use Rattle.rules.specs.Bits.{anyOf, firstOf}
+use Rattle.rules.specs.Places.{pileStart, cardAt, pileCard, count, hasHead, head, isHead, isBuried, isLocked, pileOf}
+use Rattle.rules.specs.Play.{withCounts, shown, hidden, turned, turnedBack, under}
+use Rattle.rules.specs.Hidden.{CountsFit, placed, headOf, bareOf, headIn, buriedIn, lockedIn, aloneIn, headPile, barePile, oneLess, oneMore, underIn, coveredIn}
+use Rattle.rules.proofs.Searches.{and-left, and-right, and-both, any-yes, yes-any, any-ext}
+use Rattle.rules.proofs.Steps.{first-at}
+use Rattle.rules.proofs.VeilLaw.{alone, pile-place, one-place}
+use Rattle.rules.proofs.Facts.{Facts}
+
+-- ---- the sets
+
+pub head-is : (p : Position) (c : ℕ) → headIn (p .deal) (p .counts) c ≡ isHead p c
+unfolding headIn isHead hasHead head pileCard cardAt count
+head-is p c = refl
+
+pub buried-is : (p : Position) (c : ℕ) → buriedIn (p .deal) (p .counts) c ≡ isBuried p c
+unfolding buriedIn isBuried pileCard cardAt count
+buried-is p c = refl
+
+pub locked-in : (p : Position) (c : ℕ) → lockedIn (p .deal) (p .counts) c ≡ isLocked p c
+unfolding lockedIn isLocked pileCard cardAt count
+locked-in p c = refl
+
+-- the last of one place is the first
+one-down : (x : ℕ) (f : ℕ → Bool) → (eqb x 1 && f 0) ≡ (eqb x 1 && f (x - 1))
+one-down x f = go (eqb x 1) refl
+  where
+    go : (b : Bool) → eqb x 1 ≡ b → (b && f 0) ≡ (b && f (x - 1))
+    go true e = ap (λ (y : ℕ). f (y - 1)) (sym (eqb-true x 1 e))
+    go false e = refl
+
+pub alone-is : (p : Position) (c : ℕ) → aloneIn (p .deal) (p .counts) c ≡ alone p c
+unfolding aloneIn alone head pileCard cardAt count
+alone-is p c = any-ext 7 _ _ (λ i l. one-down (getD (p .counts) i 0) (λ k. eqb (placed (p .deal) i k) c))
+
+-- ---- the piles
+
+module _ (p : Position) (f : Facts p) where
+  -- a card at one place of the piles is dealt to that pile alone
+  dealt-to : (c i k : ℕ) → i < 7 → k ≤ i → pileCard p i k ≡ c → pileOf p c ≡ i
+  unfolding pileOf pileCard
+  dealt-to c i k l m e =
+      first-at 7 (λ j. anyOf (j + 1) (λ h. eqb (cardAt p (pileStart j + h)) c)) i l earlier
+      (yes-any (i + 1) (λ h. eqb (cardAt p (pileStart i + h)) c) k (omega arith) (eq-eqb (cardAt p (pileStart i + k)) c e))
+    where
+      earlier : (j : ℕ) → j < i → anyOf (j + 1) (λ h. eqb (cardAt p (pileStart j + h)) c) ≡ true → ⊥
+      earlier j s t =
+          let u = any-yes (j + 1) (λ h. eqb (cardAt p (pileStart j + h)) c) t in
+          let v : u .0 ≤ j = omega (arith, u .1) in
+          let w : cardAt p (pileStart j + u .0) ≡ c = eqb-true (cardAt p (pileStart j + u .0)) c (u .2) in
+          let same = f .differ (pileStart j + u .0) (pileStart i + k) (pile-place j (u .0) (omega arith) v) (pile-place i k l m) (w ∙ sym e) in
+          omega (arith, one-place j (u .0) i k (omega arith) v l m same .0)
+
+  -- a search that finds a card at a place of each pile finds the pile that the card was dealt to
+  module _ (c : ℕ) (has : ℕ → Bool) (at : ℕ → ℕ) (inside : (i : ℕ) → i < 7 → has i ≡ true → at i ≤ i) where
+    found : (i : ℕ) → i < 7 → (has i && eqb (placed (p .deal) i (at i)) c) ≡ true → firstOf 7 (λ j. has j && eqb (placed (p .deal) j (at j)) c) ≡ pileOf p c
+    unfolding pileCard cardAt
+    found i l t =
+        first-at 7 (λ j. has j && eqb (placed (p .deal) j (at j)) c) i l (λ j s u. omega (arith, sym (to j (omega arith) u) ∙ to i l t)) t ∙ sym (to i l t)
+      where
+        to : (j : ℕ) → j < 7 → (has j && eqb (placed (p .deal) j (at j)) c) ≡ true → pileOf p c ≡ j
+        to j m u =
+            dealt-to c j (at j) m (inside j m (and-left (has j) (eqb (placed (p .deal) j (at j)) c) u))
+            (eqb-true (placed (p .deal) j (at j)) c (and-right (has j) (eqb (placed (p .deal) j (at j)) c) u))
+
+  pub head-pile-is : (c : ℕ) → isHead p c ≡ true → headPile (p .deal) (p .counts) c ≡ pileOf p c
+  unfolding headPile isHead hasHead head pileCard cardAt count
+  head-pile-is c t =
+      let n = p .counts in
+      let u = any-yes 7 (λ i. headOf (p .deal) n c i) t in
+      found c (λ i. ltb 0 (getD n i 0)) (λ i. getD n i 0 - 1) (λ i l b. omega (arith, f .counts i l)) (u .0) (u .1) (u .2)
+
+  pub bare-pile-is : (i : ℕ) → i < 7 → count p i ≤ i → barePile (p .deal) (p .counts) (pileCard p i (count p i)) ≡ pileOf p (pileCard p i (count p i))
+  unfolding barePile pileCard cardAt count
+  bare-pile-is i l m =
+      let n = p .counts in
+      let c = placed (p .deal) i (getD n i 0) in
+      found c (λ j. leb (getD n j 0) j) (λ j. getD n j 0) (λ j s b. leb-true (getD n j 0) j b) i l
+      (and-both (leb (getD n i 0) i) (eqb c c) (le-leb (getD n i 0) i m) (eq-eqb c c refl))
+
+-- ---- turning up and back
+
+pub under-is : (p : Position) (i : ℕ) → underIn (p .deal) (p .counts) i ≡ under p i
+unfolding underIn under pileCard cardAt count
+under-is p i = refl
+
+-- the position with a card that was turned up visible; with a card that is covered again hidden
+unfoldable pub upTurned : Position → TurnedUp → Position
+upTurned p Nothing = p
+upTurned p Emptied = p
+upTurned p (Card c) = shown p (c .0)
+
+unfoldable pub upHidden : Position → TurnedUp → Position
+upHidden p Nothing = p
+upHidden p Emptied = p
+upHidden p (Card c) = hidden p (c .0)
+
+-- a choice within a function's argument
+under-cond : {A B : Type 0} (g : A → B) (b : Bool) (x y : A) → g (cond b x y) ≡ cond b (g x) (g y)
+under-cond g true x y = refl
+under-cond g false x y = refl
+
+pub turned-is : (p : Position) (i : ℕ) → turned p i ≡ upTurned (withCounts p (oneLess (p .counts) i)) (underIn (p .deal) (p .counts) i)
+unfolding turned upTurned oneLess underIn pileCard cardAt count
+turned-is p i = sym (under-cond (upTurned (withCounts p (oneLess (p .counts) i))) (ltb 1 (getD (p .counts) i 0)) _ _)
+
+pub turned-back-is : (p : Position) (i : ℕ) → turnedBack p i ≡ upHidden (withCounts p (oneMore (p .counts) i)) (coveredIn (p .deal) (p .counts) i)
+unfolding turnedBack upHidden oneMore coveredIn pileCard cardAt count
+turned-back-is p i = sym (under-cond (upHidden (withCounts p (oneMore (p .counts) i))) (ltb 0 (getD (p .counts) i 0)) _ _)

@@ -1,0 +1,78 @@
+-- Document 01, "The position", of a deal and seven counts alone: the locked cards of the piles, as they are found, turned up and turned back.
+-- Each is the position's own, which proofs/HiddenLaw.antt shows.
+use mathlib.Core.Bool.{Bool, true, false, _&&_, cond}
+use mathlib.Core.List.{List}
+use Prim.Native.Nat.{ℕ, zero, suc, _+_, _-_, _%_, _≤_, _<_}
+use lib.Dec.{eqb, ltb, leb}
+use lib.ListN.{getD, set}
+use Rattle.rules.specs.declared.TurnedUp.{TurnedUp}
+use Rattle.rules.specs.declared.TurnedUp.the-variants.{Emptied, Card}
+use Rattle.rules.specs.Bits.{maskOf, anyOf, allOf, firstOf}
+use Rattle.rules.specs.Places.{pileStart}
+
+-- "A deal is 52 card numbers": each is below 52. "seven counts n_i from 0 to i+1"
+abbrev pub CardsFit : List ℕ → Type 0
+CardsFit d = (k : ℕ) → k < 52 → getD d k 0 < 52
+
+abbrev pub CountsFit : List ℕ → Type 0
+CountsFit n = (i : ℕ) → i < 7 → getD n i 0 ≤ i + 1
+
+-- place k of pile i in the deal d
+abbrev pub placed : List ℕ → ℕ → ℕ → ℕ
+placed d i k = getD d (pileStart i + k) 0
+
+-- "The first n_i places of pile i are locked; the last of them is the head, the ones before it are buried"
+unfoldable pub lockedIn : List ℕ → List ℕ → ℕ → Bool
+lockedIn d n c = anyOf 7 (λ i. anyOf (getD n i 0) (λ k. eqb (placed d i k) c))
+
+unfoldable pub buriedIn : List ℕ → List ℕ → ℕ → Bool
+buriedIn d n c = anyOf 7 (λ i. anyOf (getD n i 0 - 1) (λ k. eqb (placed d i k) c))
+
+abbrev pub headOf : List ℕ → List ℕ → ℕ → ℕ → Bool
+headOf d n c i = ltb 0 (getD n i 0) && eqb (placed d i (getD n i 0 - 1)) c
+
+unfoldable pub headIn : List ℕ → List ℕ → ℕ → Bool
+headIn d n c = anyOf 7 (λ i. headOf d n c i)
+
+-- a head with no card under it: it stands "at the base of its pile"
+unfoldable pub aloneIn : List ℕ → List ℕ → ℕ → Bool
+aloneIn d n c = anyOf 7 (λ i. eqb (getD n i 0) 1 && eqb (placed d i 0) c)
+
+-- the pile whose head is c; the pile whose first card that is not locked is c, the card that a head left last. 7 where there is none
+unfoldable pub headPile : List ℕ → List ℕ → ℕ → ℕ
+headPile d n c = firstOf 7 (λ i. headOf d n c i)
+
+abbrev pub bareOf : List ℕ → List ℕ → ℕ → ℕ → Bool
+bareOf d n c i = leb (getD n i 0) i && eqb (placed d i (getD n i 0)) c
+
+unfoldable pub barePile : List ℕ → List ℕ → ℕ → ℕ
+barePile d n c = firstOf 7 (λ i. bareOf d n c i)
+
+-- the counts with pile i one lower; one higher
+unfoldable pub oneLess : List ℕ → ℕ → List ℕ
+oneLess n i = set n i (getD n i 0 - 1)
+
+unfoldable pub oneMore : List ℕ → ℕ → List ℕ
+oneMore n i = set n i (getD n i 0 + 1)
+
+-- "Removing a head turns up the card under it"; the card that is covered when the head comes back. Emptied where there is no such card
+unfoldable pub underIn : List ℕ → List ℕ → ℕ → TurnedUp
+underIn d n i = cond (ltb 1 (getD n i 0)) (Card (record { 0 = placed d i (getD n i 0 - 2) })) Emptied
+
+unfoldable pub coveredIn : List ℕ → List ℕ → ℕ → TurnedUp
+coveredIn d n i = cond (ltb 0 (getD n i 0)) (Card (record { 0 = placed d i (getD n i 0 - 1) })) Emptied
+
+-- no card is buried; how many are
+unfoldable pub allUp : List ℕ → Bool
+allUp n = allOf 7 (λ i. leb (getD n i 0) 1)
+
+unfoldable pub sumOf : ℕ → (ℕ → ℕ) → ℕ
+sumOf zero f = 0
+sumOf (suc n) f = f 0 + sumOf n (λ k. f (suc k))
+
+unfoldable pub downCards : List ℕ → ℕ
+downCards n = sumOf 7 (λ i. getD n i 0 - 1)
+
+-- the cards at the k places of d from s on, each byte taken modulo 64
+unfoldable pub cardsFrom : List ℕ → ℕ → ℕ → ℕ
+cardsFrom d s k = maskOf 64 (λ c. anyOf k (λ j. eqb (getD d (s + j) 0 % 64) c))
