@@ -1,5 +1,5 @@
 -- Document 01, "Cards and masks".
-use mathlib.Core.Bool.{Bool, true, false, _&&_, cond}
+use mathlib.Core.Bool.{Bool, cond}
 use Prim.Native.Nat.{ℕ, _+_, _-_, _*_, _/_, _%_}
 use lib.Dec.{eqb}
 use Rattle.bits.specs.Bit.{maskOf}

@@ -1,6 +1,6 @@
 // Cards, and the constant tables that follow from the card-number rule.
 ghost use mathlib.Core.Path.{_≡_};
-ghost use Prim.Native.Nat.{_<_, _-_, _/_, _%_};
+ghost use Prim.Native.Nat.{_<_, _/_, _%_};
 ghost use lib.Dec.{eqb};
 ghost use Rattle.bits.specs.Bit.{maskOf};
 ghost use Rattle.card.specs.Cards.{cardOf, rank as rankOf, suit as suitOf, partner, suitMask, colourMask, pileStart};
@@ -43,6 +43,9 @@ pub const RANK_MASK: u64 = 0x1111_1111_1111_1111;
 
 // A card number. The cards are 0 to 51; every method answers on every byte.
 pub struct Card(pub u8);
+
+// The largest byte.
+const TOP: u8 = 255;
 
 // The source's Option<Card>.
 pub enum Maybe {
@@ -122,10 +125,10 @@ impl Card {
     pub fn increase_rank_swap_color(self) -> Self
         ensures { λ r. ⌜ r .0 ≡ above (self .0) ⌝ }
     {
-        if self.0 < 252 {
+        if self.0 < TOP - N_SUITS {
             return Card(self.0 + N_SUITS);
         }
-        Card(255)
+        Card(TOP)
     }
 
     // Stops at 0.

@@ -8,9 +8,13 @@ use rules::Masks;
 
 // The kinds, as the history has them.
 pub const DECK_STACK: u8 = 0;
+
 pub const PILE_STACK: u8 = 1;
+
 pub const DECK_PILE: u8 = 2;
+
 pub const STACK_PILE: u8 = 3;
+
 pub const REVEAL: u8 = 4;
 
 // A listed move is its kind times this, and its card.

@@ -1,11 +1,15 @@
+-- `moves::is_empty` meets its contract.
+-- Assumes nothing.
+use mathlib.Core.Bool.{Bool, _&&_}
+use mathlib.Core.Path.{_≡_}
+use Rattle.rules.specs.Moves.{noMove}
+use Rattle.moves.proofs.Sized.{or-none}
 use Rattle.moves.proofs.is_empty.Statement.{statement}
 use Rattle.moves.proofs.is_empty.Tie as tie
-use Rattle.moves.proofs.is_empty.Reads as reads
-use Rattle.moves.proofs.is_empty.Lts as lts
 
--- src/lib.rt:31:1
 returns : tie.Need-returns
-returns c = ?
+unfolding noMove
+returns c = simp or-none
 
 pub is-empty-spec : {M : Type 1} → statement M
 is-empty-spec = tie.close (tie.spec returns)

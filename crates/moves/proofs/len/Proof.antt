@@ -1,49 +1,48 @@
+-- `moves::len` meets its contract.
+-- Assumes nothing.
+use Prim.Native.Nat.{ℕ, _≤_}
+use native.Mathlib.Omega.{arith}
+use Rattle.rules.proofs.Searches.{count-le}
+use Rattle.bits.specs.Bit.{bit, countOf}
+use Rattle.rules.specs.Pruned.{size}
+use Rattle.rules.specs.Moves.{moveCount}
 use borrow.Author.Needs.{needs}
 use Rattle.moves.proofs.len.Statement.{statement}
 use Rattle.moves.proofs.len.Tie as tie
-use Rattle.moves.proofs.len.Reads as reads
-use Rattle.moves.proofs.len.Lts as lts
-use Rattle.bits.proofs.count.Reads as count-reads
 
--- src/lib.rt:23:5
+few : (m : ℕ) → countOf 64 (bit m) ≤ 64
+few m = count-le 64 (bit m)
+
 count-requires : tie.Need-count-requires
 count-requires c κs = search needs
 
--- src/lib.rt:24:11
 count-requires-2 : tie.Need-count-requires-2
 count-requires-2 c κs = search needs
 
--- src/lib.rt:23:5
 add-result : tie.Need-add-result
-add-result c = ?
+add-result c = let m = c .before .before .args .m in omega (arith, few (m .reveal), few (m .«pile_stack»))
 
--- src/lib.rt:25:11
 count-requires-3 : tie.Need-count-requires-3
 count-requires-3 c κs = search needs
 
--- src/lib.rt:23:5
 add-result-2 : tie.Need-add-result-2
-add-result-2 c = ?
+add-result-2 c = let m = c .before .before .before .args .m in omega (arith, few (m .reveal), few (m .«pile_stack»), few (m .«deck_pile»))
 
--- src/lib.rt:26:11
 count-requires-4 : tie.Need-count-requires-4
 count-requires-4 c κs = search needs
 
--- src/lib.rt:23:5
 add-result-3 : tie.Need-add-result-3
-add-result-3 c = ?
+add-result-3 c = let m = c .before .before .before .before .args .m in omega (arith, few (m .reveal), few (m .«pile_stack»), few (m .«deck_pile»), few (m .«deck_stack»))
 
--- src/lib.rt:27:11
 count-requires-5 : tie.Need-count-requires-5
 count-requires-5 c κs = search needs
 
--- src/lib.rt:23:5
 add-result-4 : tie.Need-add-result-4
-add-result-4 c = ?
+add-result-4 c = let m = c .before .before .before .before .before .args .m in omega (arith, few (m .reveal), few (m .«pile_stack»), few (m .«deck_pile»), few (m .«deck_stack»), few (m .«stack_pile»))
 
--- src/lib.rt:20:1
 returns : tie.Need-returns
-returns c = ?
+unfolding moveCount size
+returns c = omega arith
 
 pub len-spec : {M : Type 1} → statement M
 len-spec =

@@ -1,21 +1,21 @@
+-- `moves::list` meets its contract.
+-- Assumes nothing.
+use mathlib.Core.Path.{refl, sym, ap, _∙_}
+use denote.Ref.{now}
+use lib.ListN.{length}
+use Rattle.moves.proofs.Writes.{front}
 use borrow.Author.Needs.{needs}
 use Rattle.moves.proofs.list.Statement.{statement}
 use Rattle.moves.proofs.list.Tie as tie
-use Rattle.moves.proofs.list.Reads as reads
-use Rattle.moves.proofs.list.Lts as lts
-use Rattle.moves.proofs.list_into.Reads as list-into-reads
 
--- src/lib.rt:110:9
 list-into-requires : tie.Need-list-into-requires
 list-into-requires c κs = search needs
 
--- src/lib.rt:111:5
 slice-aggregate-result : tie.Need-slice-aggregate-result
-slice-aggregate-result c = ?
+slice-aggregate-result c = c .before .before .before .list-into .ensures .0 ∙ sym (ap length (front (c .before .before .before .before .before .before .args .m) (now (c .before .before .before .before .before .before .args .out)) (c .before .before .before .list-into .last .1 .0) (c .before .before .before .list-into .result) (c .before .before .before .list-into .ensures .0) (c .before .before .before .list-into .ensures .1)))
 
--- src/lib.rt:106:1
 returns : tie.Need-returns
-returns c = ?
+returns c = (front (c .before .before .before .before .before .before .args .m) (now (c .before .before .before .before .before .before .args .out)) (c .before .before .before .list-into .last .1 .0) (c .before .before .before .list-into .result) (c .before .before .before .list-into .ensures .0) (c .before .before .before .list-into .ensures .1), refl)
 
 pub list-spec : {M : Type 1} → statement M
 list-spec = tie.close (tie.spec list-into-requires slice-aggregate-result returns)

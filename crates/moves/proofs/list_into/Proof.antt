@@ -1,90 +1,91 @@
+-- `moves::list_into` meets its contract.
+-- Assumes nothing.
+use mathlib.Core.List.{[], _++_}
+use native.Mathlib.Omega.{arith}
+use denote.Ref.{now}
+use lib.Dec.{lit≤}
+use Rattle.rules.specs.Legal.{listing}
+use Rattle.rules.specs.Pruned.{size}
+use Rattle.rules.specs.Moves.{moveCount}
+use Rattle.moves.proofs.Writes.{none, more, all-written, too-short}
 use borrow.Author.Needs.{needs}
 use Rattle.moves.proofs.list_into.Statement.{statement}
 use Rattle.moves.proofs.list_into.Tie as tie
-use Rattle.moves.proofs.list_into.Reads as reads
-use Rattle.moves.proofs.list_into.Lts as lts
-use Rattle.bits.proofs.fill.Reads as fill-reads
-use Rattle.moves.proofs.len.Reads as len-reads
 
--- src/lib.rt:95:20
 len-requires : tie.Need-len-requires
 len-requires c κs = search needs
 
--- src/lib.rt:95:20
 cast-if1 : tie.Need-cast-if1
 cast-if1 c = search needs
 
--- src/lib.rt:96:9
 returns : tie.Need-returns
-returns c = ?
+returns c = too-short (c .before .before .before .args .m) (c .before .before .before .pre) (now (c .before .before .before .args .out)) (omega arith)
 
--- src/lib.rt:98:34
 cast-fill : tie.Need-cast-fill
 cast-fill c = search needs
 
--- src/lib.rt:98:34
 mul-fill : tie.Need-mul-fill
 mul-fill c = search needs
 
--- src/lib.rt:98:9
 fill-requires : tie.Need-fill-requires
-fill-requires c κs = ?
+unfolding moveCount size
+fill-requires c κs = (lit≤ tt, omega arith)
 
--- src/lib.rt:99:38
 cast-fill-2 : tie.Need-cast-fill-2
 cast-fill-2 c = search needs
 
--- src/lib.rt:99:38
 mul-fill-2 : tie.Need-mul-fill-2
 mul-fill-2 c = search needs
 
--- src/lib.rt:99:9
 fill-requires-2 : tie.Need-fill-requires-2
-fill-requires-2 c κs = ?
+unfolding moveCount size
+fill-requires-2 c κs = (lit≤ tt, omega arith)
 
--- src/lib.rt:100:37
 cast-fill-3 : tie.Need-cast-fill-3
 cast-fill-3 c = search needs
 
--- src/lib.rt:100:37
 mul-fill-3 : tie.Need-mul-fill-3
 mul-fill-3 c = search needs
 
--- src/lib.rt:100:9
 fill-requires-3 : tie.Need-fill-requires-3
-fill-requires-3 c κs = ?
+unfolding moveCount size
+fill-requires-3 c κs = (lit≤ tt, omega arith)
 
--- src/lib.rt:101:38
 cast-fill-4 : tie.Need-cast-fill-4
 cast-fill-4 c = search needs
 
--- src/lib.rt:101:38
 mul-fill-4 : tie.Need-mul-fill-4
 mul-fill-4 c = search needs
 
--- src/lib.rt:101:9
 fill-requires-4 : tie.Need-fill-requires-4
-fill-requires-4 c κs = ?
+unfolding moveCount size
+fill-requires-4 c κs = (lit≤ tt, omega arith)
 
--- src/lib.rt:102:30
 cast-fill-5 : tie.Need-cast-fill-5
 cast-fill-5 c = search needs
 
--- src/lib.rt:102:30
 mul-fill-5 : tie.Need-mul-fill-5
 mul-fill-5 c = search needs
 
--- src/lib.rt:102:5
 fill-requires-5 : tie.Need-fill-requires-5
-fill-requires-5 c κs = ?
+unfolding moveCount size
+fill-requires-5 c κs = (lit≤ tt, omega arith)
 
--- src/lib.rt:91:1
 same-length : tie.Need-same-length
 same-length c = search needs
 
--- src/lib.rt:91:1
 returns-2 : tie.Need-returns-2
-returns-2 c = ?
+unfolding listing
+returns-2 c =
+    let s = c .before .before .before .before .before .before .before .before .before .before .before .before .before .before .before .before .before .before .before .before .before .before .before in
+    let m = s .args .m in
+    let o = now (s .args .out) in
+    let w1 = more 4 (m .reveal) (c .before .before .before .before .before .before .before .before .before .before .before .before .before .before .before .before .before .before .fill .last .1 .1 .0) (c .before .before .before .before .before .before .before .before .before .before .before .before .before .before .before .before .before .before .fill .result) (s .pre .reveal) (none o) (c .before .before .before .before .before .before .before .before .before .before .before .before .before .before .before .before .before .before .fill .ensures) in
+    let w2 = more 1 (m .«pile_stack») (c .before .before .before .before .before .before .before .before .before .before .before .before .before .before .fill2 .last .1 .1 .0) (c .before .before .before .before .before .before .before .before .before .before .before .before .before .before .fill2 .result) (s .pre .«pile_stack») w1 (c .before .before .before .before .before .before .before .before .before .before .before .before .before .before .fill2 .ensures) in
+    let w3 = more 2 (m .«deck_pile») (c .before .before .before .before .before .before .before .before .before .before .fill3 .last .1 .1 .0) (c .before .before .before .before .before .before .before .before .before .before .fill3 .result) (s .pre .«deck_pile») w2 (c .before .before .before .before .before .before .before .before .before .before .fill3 .ensures) in
+    let w4 = more 0 (m .«deck_stack») (c .before .before .before .before .before .before .fill4 .last .1 .1 .0) (c .before .before .before .before .before .before .fill4 .result) (s .pre .«deck_stack») w3 (c .before .before .before .before .before .before .fill4 .ensures) in
+    let w5 = more 3 (m .«stack_pile») (c .before .before .fill5 .last .1 .1 .0) (c .before .before .fill5 .result) (s .pre .«stack_pile») w4 (c .before .before .fill5 .ensures) in
+    all-written m (s .pre) o _ _ (omega arith) w5
 
 pub list-into-spec : {M : Type 1} → statement M
 list-into-spec =

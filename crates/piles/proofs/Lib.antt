@@ -1,0 +1,5 @@
+pub mod Pairs
+pub mod Row
+pub mod Kings
+pub mod Reading
+pub mod Turn
