@@ -1,0 +1,6 @@
+pub mod DeckFind
+pub mod Sight
+pub mod Ways
+pub mod Known
+pub mod EachKind
+pub mod Pushed

@@ -12,7 +12,7 @@ use Rattle.rules.specs.Play.{turned, under, after, undoByte, turnedUp}
 use Rattle.rules.specs.Proper.{proper}
 use Rattle.rules.specs.History.{samePosition, stepBack, undoable}
 use Rattle.play.specs.declared.Made.{Made}
-use Rattle.play.specs.declared.Undo.{Undo}
+use Rattle.play.specs.declared.Back.{Back}
 
 -- a move's position, byte and turned-up card
 unfoldable pub made : Position → ℕ → ℕ → Made
@@ -30,13 +30,13 @@ leftPile p c = ltb (barePile (p .deal) (p .counts) c) 7
 unfoldable pub hasWay : Position → ℕ → ℕ → ℕ → Bool
 hasWay p byte kind c = byKind kind (ltb (p .left) 24) (eqb byte 0 || leftPile p c) (ltb (p .left) 24) true (leftPile p c)
 
--- two positions of one deal are the same
+-- the cards left are the same; two positions of one deal are the same
+unfoldable pub sameDeck : Position → Position → Bool
+sameDeck p q = eqb (p .left) (q .left) && sameList (take (p .left) (p .deck)) (take (q .left) (q .deck))
+
 unfoldable pub sameInDeal : Position → Position → Bool
 sameInDeal p q =
-    eqb (p .step) (q .step) && sameList (p .counts) (q .counts) && sameList (p .heights) (q .heights)
-    && eqb (p .left) (q .left)
-    && sameList (take (p .left) (p .deck)) (take (q .left) (q .deck))
-    && eqb (p .offset) (q .offset)
+    eqb (p .step) (q .step) && sameList (p .counts) (q .counts) && sameList (p .heights) (q .heights) && sameDeck p q && eqb (p .offset) (q .offset)
     && eqb (p .visible) (q .visible)
 
 -- q is a proper position from which a legal move of this kind and card writes the byte and leads to p
@@ -44,5 +44,5 @@ unfoldable pub leadsTo : Position → ℕ → ℕ → ℕ → Position → Bool
 leadsTo q byte kind c p = proper q && legal q kind c && eqb (undoByte q kind c) byte && samePosition (after q kind c) p
 
 -- refusal 15's answer: the position before, or none
-unfoldable pub undone : Position → ℕ → Undo
+unfoldable pub undone : Position → ℕ → Back
 undone p e = cond (undoable p e) (record { possible = true; position = stepBack p e }) (record { possible = false; position = p })

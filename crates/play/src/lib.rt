@@ -9,15 +9,17 @@ ghost use Rattle.rules.specs.Cards.{suit};
 ghost use Rattle.rules.specs.Places.{height, inDeck};
 ghost use Rattle.rules.specs.Proper.{proper};
 ghost use Rattle.rules.specs.Legal.{legal};
-ghost use Rattle.rules.specs.Hidden.{CountsFit};
+ghost use Rattle.rules.specs.Hidden.{CountsFit, headPile, barePile};
 ghost use Rattle.rules.specs.Play.{raised, lowered, shown, hidden, drawn, putBack, turned, turnedBack, under, before};
 ghost use Rattle.rules.proofs.HiddenLaw.{upTurned, upHidden};
-ghost use Rattle.play.specs.Made.{made, turnedAt, hasWay, leftPile, sameInDeal, leadsTo, undone};
+ghost use Rattle.play.specs.Made.{made, turnedAt, hasWay, sameDeck, sameInDeal, leadsTo, undone};
 use card::Card;
 use rules::Position;
 use rules::TurnedUp;
 
 const N_PILES: usize = 7;
+
+const N_FOUNDATIONS: usize = 4;
 
 const N_DECK_CARDS: u8 = 24;
 
@@ -29,7 +31,7 @@ pub struct Made {
 }
 
 // What going back over an entry leads to. Where that is impossible the position is the given one.
-pub struct Undo {
+pub struct Back {
     pub possible: bool,
     pub position: Position,
 }
@@ -40,7 +42,8 @@ fn raise(mut p: Position, card: u8) -> Position
     ensures { λ r. ⌜ r ≡ raised p card ⌝ }
 {
     let heights = p.heights;
-    p.heights = stack::push(heights, Card(card).suit() as usize);
+    let higher = stack::push(heights, Card(card).suit() as usize);
+    p.heights = higher;
     p
 }
 
@@ -49,7 +52,8 @@ fn lower(mut p: Position, card: u8) -> Position
     ensures { λ r. ⌜ r ≡ lowered p card ⌝ }
 {
     let heights = p.heights;
-    p.heights = stack::pop(heights, Card(card).suit() as usize);
+    let lower = stack::pop(heights, Card(card).suit() as usize);
+    p.heights = lower;
     p
 }
 
@@ -75,7 +79,8 @@ fn draw(mut p: Position, card: u8) -> Position
     let place = deck::find_card(p, card).place;
     let cards = p.deck;
     let left = p.left;
-    p.deck = deck::draw(cards, left, place);
+    let rest = deck::draw(cards, left, place);
+    p.deck = rest;
     p.left = left - 1;
     p.offset = place;
     p
@@ -88,7 +93,8 @@ fn put_back(mut p: Position, card: u8, offset: u8) -> Position
 {
     let cards = p.deck;
     let left = p.left;
-    p.deck = deck::push(cards, left, p.offset, card);
+    let more = deck::push(cards, left, p.offset, card);
+    p.deck = more;
     p.left = left + 1;
     p.offset = offset;
     p
@@ -146,4 +152,286 @@ fn turn_back(mut p: Position, pile: usize) -> Position
     let covered = back.card;
     p.counts = more;
     hide_covered(p, covered)
+}
+
+// The pile that the card is the head of, and 7 where there is none.
+fn head_pile(p: Position, card: u8) -> usize
+    requires { ⌜ T (proper p) ⌝ }
+    ensures { λ r. ⌜ r ≡ headPile (p .deal) (p .counts) card ⌝ }
+{
+    let deal = p.deal;
+    let counts = p.counts;
+    hidden::find_head(&deal, &counts, card)
+}
+
+// The pile that the card left last as its head, and 7 where there is none.
+fn bare_pile(p: Position, card: u8) -> usize
+    requires { ⌜ T (proper p) ⌝ }
+    ensures { λ r. ⌜ r ≡ barePile (p .deal) (p .counts) card ⌝ }
+{
+    let deal = p.deal;
+    let counts = p.counts;
+    hidden::find_bare(&deal, &counts, card)
+}
+
+fn make_deck_stack(p: Position, card: u8) -> Made
+    requires { ⌜ T (proper p) × T (legal p 0 card) ⌝ }
+    ensures { λ r. ⌜ r ≡ made p 0 card ⌝ }
+{
+    Made {
+        position: raise(draw(p, card), card),
+        byte: p.offset,
+        turned: TurnedUp::Nothing,
+    }
+}
+
+// A head that goes up turns its pile; the byte says so.
+fn make_pile_stack(p: Position, card: u8) -> Made
+    requires { ⌜ T (proper p) × T (legal p 1 card) ⌝ }
+    ensures { λ r. ⌜ r ≡ made p 1 card ⌝ }
+{
+    let up = hide(raise(p, card), card);
+    let pile = head_pile(p, card);
+    if pile < N_PILES {
+        return turn_up(up, pile, 1);
+    }
+    Made {
+        position: up,
+        byte: 0,
+        turned: TurnedUp::Nothing,
+    }
+}
+
+fn make_deck_pile(p: Position, card: u8) -> Made
+    requires { ⌜ T (proper p) × T (legal p 2 card) ⌝ }
+    ensures { λ r. ⌜ r ≡ made p 2 card ⌝ }
+{
+    Made {
+        position: show(draw(p, card), card),
+        byte: p.offset,
+        turned: TurnedUp::Nothing,
+    }
+}
+
+fn make_stack_pile(p: Position, card: u8) -> Made
+    ensures { λ r. ⌜ r ≡ made p 3 card ⌝ }
+{
+    Made {
+        position: show(lower(p, card), card),
+        byte: 0,
+        turned: TurnedUp::Nothing,
+    }
+}
+
+// The head goes to another pile, so it stays visible.
+fn make_reveal(p: Position, card: u8) -> Made
+    requires { ⌜ T (proper p) × T (legal p 4 card) ⌝ }
+    ensures { λ r. ⌜ r ≡ made p 4 card ⌝ }
+{
+    turn_up(p, head_pile(p, card), 0)
+}
+
+// Makes a legal move.
+pub fn do_move(p: Position, kind: u8, card: u8) -> Made
+    requires { ⌜ T (proper p) × T (legal p kind card) ⌝ }
+    ensures { λ r. ⌜ r ≡ made p kind card ⌝ }
+{
+    match kind {
+        0 => make_deck_stack(p, card),
+        1 => make_pile_stack(p, card),
+        2 => make_deck_pile(p, card),
+        3 => make_stack_pile(p, card),
+        _ => make_reveal(p, card),
+    }
+}
+
+// There is a place for the card to go back to. Whoever asks for an undo may have written the entry, so nothing in it is trusted.
+fn has_way(p: Position, byte: u8, kind: u8, card: u8) -> bool
+    requires { ⌜ T (proper p) ⌝ }
+    ensures { λ r. ⌜ r ≡ hasWay p byte kind card ⌝ }
+{
+    match kind {
+        0 => p.left < N_DECK_CARDS,
+        1 => {
+            if byte == 0 {
+                return true;
+            }
+            bare_pile(p, card) < N_PILES
+        }
+        2 => p.left < N_DECK_CARDS,
+        3 => true,
+        _ => bare_pile(p, card) < N_PILES,
+    }
+}
+
+fn unmake_deck_stack(p: Position, byte: u8, card: u8) -> Position
+    requires { ⌜ T (proper p) × T (hasWay p byte 0 card) ⌝ }
+    ensures { λ r. ⌜ r ≡ before p byte 0 card ⌝ }
+{
+    put_back(lower(p, card), card, byte)
+}
+
+// A byte that is not 0 says that the card was a head.
+fn unmake_pile_stack(p: Position, byte: u8, card: u8) -> Position
+    requires { ⌜ T (proper p) × T (hasWay p byte 1 card) ⌝ }
+    ensures { λ r. ⌜ r ≡ before p byte 1 card ⌝ }
+{
+    let down = show(lower(p, card), card);
+    if byte == 0 {
+        return down;
+    }
+    turn_back(down, bare_pile(p, card))
+}
+
+fn unmake_deck_pile(p: Position, byte: u8, card: u8) -> Position
+    requires { ⌜ T (proper p) × T (hasWay p byte 2 card) ⌝ }
+    ensures { λ r. ⌜ r ≡ before p byte 2 card ⌝ }
+{
+    put_back(hide(p, card), card, byte)
+}
+
+fn unmake_stack_pile(p: Position, byte: u8, card: u8) -> Position
+    requires { ⌜ T (proper p) ⌝ }
+    ensures { λ r. ⌜ r ≡ before p byte 3 card ⌝ }
+{
+    raise(hide(p, card), card)
+}
+
+fn unmake_reveal(p: Position, byte: u8, card: u8) -> Position
+    requires { ⌜ T (proper p) × T (hasWay p byte 4 card) ⌝ }
+    ensures { λ r. ⌜ r ≡ before p byte 4 card ⌝ }
+{
+    turn_back(p, bare_pile(p, card))
+}
+
+// Goes back over a move that wrote this byte, if there is a way. What comes out may be no proper position.
+pub fn undo_move(p: Position, byte: u8, kind: u8, card: u8) -> Position
+    requires { ⌜ T (proper p) × T (hasWay p byte kind card) ⌝ }
+    ensures { λ r. ⌜ r ≡ before p byte kind card ⌝ }
+{
+    match kind {
+        0 => unmake_deck_stack(p, byte, card),
+        1 => unmake_pile_stack(p, byte, card),
+        2 => unmake_deck_pile(p, byte, card),
+        3 => unmake_stack_pile(p, byte, card),
+        _ => unmake_reveal(p, byte, card),
+    }
+}
+
+// The first n bytes are the same.
+fn same_bytes(a: &[u8], b: &[u8], n: usize) -> bool
+    requires { ⌜ (n ≤ length (now a)) × (n ≤ length (now b)) ⌝ }
+    ensures { λ r. ⌜ r ≡ sameList (take n (now (a .entry))) (take n (now (b .entry))) ⌝ }
+{
+    let mut i: usize = 0;
+    while i < n {
+        if a[i] != b[i] {
+            return false;
+        }
+        i += 1;
+    }
+    true
+}
+
+fn same_counts(p: Position, q: Position) -> bool
+    ensures { λ r. ⌜ r ≡ sameList (p .counts) (q .counts) ⌝ }
+{
+    let a = p.counts;
+    let b = q.counts;
+    same_bytes(&a, &b, N_PILES)
+}
+
+fn same_heights(p: Position, q: Position) -> bool
+    ensures { λ r. ⌜ r ≡ sameList (p .heights) (q .heights) ⌝ }
+{
+    let a = p.heights;
+    let b = q.heights;
+    same_bytes(&a, &b, N_FOUNDATIONS)
+}
+
+// The cards left are the same. Spare slots don't count.
+fn same_deck(p: Position, q: Position) -> bool
+    requires { ⌜ p .left ≤ 24 ⌝ }
+    ensures { λ r. ⌜ r ≡ sameDeck p q ⌝ }
+{
+    let left = p.left;
+    let a = p.deck;
+    let b = q.deck;
+    if left != q.left {
+        return false;
+    }
+    same_bytes(&a, &b, left as usize)
+}
+
+// Two positions of one deal are the same.
+fn same_in_deal(p: Position, q: Position) -> bool
+    requires { ⌜ p .left ≤ 24 ⌝ }
+    ensures { λ r. ⌜ r ≡ sameInDeal p q ⌝ }
+{
+    if p.step != q.step {
+        return false;
+    }
+    if !same_counts(p, q) {
+        return false;
+    }
+    if !same_heights(p, q) {
+        return false;
+    }
+    if !same_deck(p, q) {
+        return false;
+    }
+    if p.offset != q.offset {
+        return false;
+    }
+    p.visible == q.visible
+}
+
+// From q, a proper position of p's deal, a legal move that writes the byte leads to p.
+fn leads_to(q: Position, byte: u8, kind: u8, card: u8, p: Position) -> bool
+    requires { ⌜ (card < 52) × T (proper p) × (q .deal ≡ p .deal) ⌝ }
+    ensures { λ r. ⌜ r ≡ leadsTo q byte kind card p ⌝ }
+{
+    if !proper::is_proper(q) {
+        return false;
+    }
+    if !state::is_valid_move(q, kind, card) {
+        return false;
+    }
+    let again = do_move(q, kind, card);
+    if again.byte != byte {
+        return false;
+    }
+    let reached = again.position;
+    same_in_deal(reached, p)
+}
+
+// Goes back over an entry, if that leads to a proper position from which the move leads here.
+pub fn undo(p: Position, entry: u16) -> Back
+    requires { ⌜ T (proper p) ⌝ }
+    ensures { λ r. ⌜ r ≡ undone p entry ⌝ }
+{
+    let none = Back {
+        possible: false,
+        position: p,
+    };
+    let byte = (entry / 512) as u8;
+    let kind = (entry / 64 % 8) as u8;
+    let card = (entry % 64) as u8;
+    if kind > 4 {
+        return none;
+    }
+    if card > 51 {
+        return none;
+    }
+    if !has_way(p, byte, kind, card) {
+        return none;
+    }
+    let q = undo_move(p, byte, kind, card);
+    if !leads_to(q, byte, kind, card, p) {
+        return none;
+    }
+    Back {
+        possible: true,
+        position: q,
+    }
 }
