@@ -1,11 +1,11 @@
 -- What a proper position, and a legal move there, give to the calls.
 -- Assumes nothing.
-use mathlib.Core.Bool.{Bool, true, false, _&&_}
+use mathlib.Core.Bool.{Bool, true, false, _&&_, _||_}
 use mathlib.Core.Path.{_≡_, refl, sym, ap, _∙_, subst}
 use Prim.Native.Nat.{ℕ, _≤_, _<_}
 use native.Mathlib.Omega.{arith}
 use lib.Dec.{T, ltb}
-use borrow.Author.Tests.{ltb-true}
+use borrow.Author.Tests.{ltb-true, ne-eqb}
 use Rattle.bits.proofs.Tables.{T-true, true-T}
 use Rattle.rules.specs.declared.Position.{Position}
 use Rattle.rules.specs.Cards.{suit, isKing}
@@ -20,7 +20,7 @@ use Rattle.rules.proofs.Facts.{facts}
 use Rattle.rules.proofs.HiddenLaw.{head-pile-is, head-pile-none, bare-pile-found}
 use Rattle.laws.proofs.Deck.{available-in}
 use Rattle.laws.proofs.Piles.{head-pile}
-use Rattle.play.specs.Made.{leftPile}
+use Rattle.play.specs.Made.{leftPile, hasWay}
 
 module _ (p : Position) (t : T (proper p)) where
   pub counts-fit : CountsFit (p .counts)
@@ -69,3 +69,22 @@ module _ (p : Position) (c : ℕ) where
   pub reveal-head : T (legal p 4 c) → isHead p c ≡ true
   unfolding legal revealLegal
   reveal-head l = and-left (isHead p c) (hasRoom p c) (and-left (isHead p c && hasRoom p c) _ (T-true _ l))
+
+-- ---- a way back
+
+module _ (p : Position) (byte c : ℕ) where
+  pub deck-stack-way : T (hasWay p byte 0 c) → p .left < 24
+  unfolding hasWay
+  deck-stack-way h = ltb-true (p .left) 24 (T-true _ h)
+
+  pub deck-pile-way : T (hasWay p byte 2 c) → p .left < 24
+  unfolding hasWay
+  deck-pile-way h = ltb-true (p .left) 24 (T-true _ h)
+
+  pub pile-stack-way : T (hasWay p byte 1 c) → (byte ≡ 0 → ⊥) → leftPile p c ≡ true
+  unfolding hasWay
+  pile-stack-way h n = sym (ap (λ (b : Bool). b || leftPile p c) (ne-eqb byte 0 n)) ∙ T-true _ h
+
+  pub reveal-way : T (hasWay p byte 4 c) → leftPile p c ≡ true
+  unfolding hasWay
+  reveal-way h = T-true _ h

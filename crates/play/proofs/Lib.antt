@@ -4,3 +4,5 @@ pub mod Ways
 pub mod Known
 pub mod EachKind
 pub mod Pushed
+pub mod LastKind
+pub mod Same

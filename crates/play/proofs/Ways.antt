@@ -1,6 +1,6 @@
 -- An entry that has no way back is impossible: the tests that go before the unmaking refuse nothing that undo would grant.
 -- Assumes nothing.
-use mathlib.Core.Bool.{Bool, true, false, _&&_, _||_, cond}
+use mathlib.Core.Bool.{Bool, true, false, _&&_, _||_, cond, true≢false}
 use mathlib.Core.Path.{_≡_, refl, sym, ap, ap₂, _∙_, subst}
 use mathlib.Core.List.{List}
 use Prim.Native.Nat.{ℕ, zero, suc, _+_, _-_, _≤_, _<_}
@@ -15,13 +15,17 @@ use Rattle.rules.specs.Places.{pileStart, cardAt, pileCard, count, isHead, pile
 use Rattle.rules.specs.Hidden.{bareOf, barePile}
 use Rattle.rules.specs.Proper.{proper}
 use Rattle.rules.specs.Legal.{legal, revealLegal, hasRoom}
-use Rattle.rules.specs.Play.{lowered, shown, hidden, putBack, turnedBack, withDeck, withHeights, withVisible, before, undoByte}
+use Rattle.rules.specs.History.{entryByte, entryKind, entryCard, isKindAndCard, samePosition, stepBack, undoable}
+use Rattle.rules.specs.Play.{lowered, shown, hidden, putBack, turnedBack, withDeck, withHeights, withVisible, before, after, undoByte}
 use Rattle.rules.proofs.Searches.{and-left, and-both, first-least}
+use Rattle.rules.proofs.VeilLaw.{is-false}
 use Rattle.laws.proofs.Facts.{Facts, facts}
 use Rattle.laws.proofs.Piles.{pileOf-deal}
 use Rattle.laws.proofs.Placed.{HeadOf, head-of}
 use Rattle.laws.proofs.TurnedBack.{back-stays}
-use Rattle.play.specs.Made.{leftPile, hasWay}
+use Rattle.laws.proofs.UndoTest.{passes}
+use Rattle.play.specs.declared.Back.{Back}
+use Rattle.play.specs.Made.{leftPile, hasWay, leadsTo, undone}
 
 -- ---- a head that is back on its pile had left it
 
@@ -89,3 +93,36 @@ module _ (p : Position) (byte c : ℕ) (long : length (p .counts) ≡ 7) where
   has-way (suc (suc (suc (suc k)))) h l u =
       let q = turnedBack p (pileOf p c) in
       had-left p p c refl refl long h (and-left (isHead q c) (hasRoom q c) (and-left (isHead q c && hasRoom q c) _ l))
+
+-- ---- refusal 15, by what the code asks in turn
+
+module _ (p : Position) (e : ℕ) where
+  abbrev back : Position
+  back = before p (entryByte e) (entryKind e) (entryCard e)
+
+  pub undoable-is : undoable p e ≡ (isKindAndCard (entryKind e) (entryCard e) && leadsTo back (entryByte e) (entryKind e) (entryCard e) p)
+  unfolding undoable leadsTo stepBack
+  undoable-is = go (isKindAndCard (entryKind e) (entryCard e))
+    where
+      t : Bool → Bool
+      t b = b && proper back && legal back (entryKind e) (entryCard e) && eqb (undoByte back (entryKind e) (entryCard e)) (entryByte e) && samePosition (after back (entryKind e) (entryCard e)) p
+
+      go : (b : Bool) → t b ≡ (b && t true)
+      go true = refl
+      go false = refl
+
+  pub no-way : length (p .counts) ≡ 7 → hasWay p (entryByte e) (entryKind e) (entryCard e) ≡ false → undoable p e ≡ false
+  unfolding stepBack
+  no-way long h =
+      is-false (undoable p e)
+      (λ u.
+      let w = passes p e u in
+      true≢false (sym (has-way p (entryByte e) (entryCard e) long (entryKind e) (w .isProper) (w .isLegal) (w .isByte)) ∙ h))
+
+  pub none-is : undoable p e ≡ false → record { possible = false; position = p } ≡ undone p e
+  unfolding undone
+  none-is h = rw h refl
+
+  pub some-is : undoable p e ≡ true → record { possible = true; position = back } ≡ undone p e
+  unfolding undone stepBack
+  some-is h = rw h refl

@@ -351,13 +351,13 @@ fn same_heights(p: Position, q: Position) -> bool
 
 // The cards left are the same. Spare slots don't count.
 fn same_deck(p: Position, q: Position) -> bool
-    requires { ⌜ p .left ≤ 24 ⌝ }
+    requires { ⌜ q .left ≤ 24 ⌝ }
     ensures { λ r. ⌜ r ≡ sameDeck p q ⌝ }
 {
-    let left = p.left;
+    let left = q.left;
     let a = p.deck;
     let b = q.deck;
-    if left != q.left {
+    if p.left != left {
         return false;
     }
     same_bytes(&a, &b, left as usize)
@@ -365,7 +365,7 @@ fn same_deck(p: Position, q: Position) -> bool
 
 // Two positions of one deal are the same.
 fn same_in_deal(p: Position, q: Position) -> bool
-    requires { ⌜ p .left ≤ 24 ⌝ }
+    requires { ⌜ q .left ≤ 24 ⌝ }
     ensures { λ r. ⌜ r ≡ sameInDeal p q ⌝ }
 {
     if p.step != q.step {

@@ -1,53 +1,52 @@
+-- `play::do_move` meets its contract.
+-- Assumes nothing.
 use borrow.Author.Needs.{needs}
+use mathlib.Core.Path.{_≡_, refl, sym, ap, _∙_, subst}
+use Prim.Native.Nat.{ℕ}
+use lib.Dec.{T}
+use Rattle.rules.specs.Legal.{legal}
+use Rattle.rules.specs.Proper.{proper}
+use Rattle.play.specs.Made.{made}
+use Rattle.play.proofs.LastKind.{none, legal-last, made-last}
 use Rattle.play.proofs.do_move.Statement.{statement}
 use Rattle.play.proofs.do_move.Tie as tie
-use Rattle.play.proofs.do_move.Reads as reads
-use Rattle.play.proofs.do_move.Lts as lts
-use Rattle.play.proofs.make_deck_pile.Reads as make-deck-pile-reads
-use Rattle.play.proofs.make_deck_stack.Reads as make-deck-stack-reads
-use Rattle.play.proofs.make_pile_stack.Reads as make-pile-stack-reads
-use Rattle.play.proofs.make_reveal.Reads as make-reveal-reads
-use Rattle.play.proofs.make_stack_pile.Reads as make-stack-pile-reads
 
--- src/lib.rt:240:14
+-- the requires of a kind's function
+of-kind : (c : tie.Start) (k : ℕ) → c .args .kind ≡ k → T (proper (c .args .p)) × T (legal (c .args .p) k (c .args .card))
+of-kind c k e = (c .pre .0, subst (λ (x : ℕ). T (legal (c .args .p) x (c .args .card))) e (c .pre .1))
+
 make-deck-stack-requires : tie.Need-make-deck-stack-requires
-make-deck-stack-requires c κs = ?
+make-deck-stack-requires c κs = of-kind (c .before) 0 (c .match .keys1)
 
--- src/lib.rt:241:14
 make-pile-stack-requires : tie.Need-make-pile-stack-requires
-make-pile-stack-requires c κs = ?
+make-pile-stack-requires c κs = of-kind (c .before) 1 (c .match .keys2)
 
--- src/lib.rt:242:14
 make-deck-pile-requires : tie.Need-make-deck-pile-requires
-make-deck-pile-requires c κs = ?
+make-deck-pile-requires c κs = of-kind (c .before) 2 (c .match .keys3)
 
--- src/lib.rt:243:14
 make-stack-pile-requires : tie.Need-make-stack-pile-requires
 make-stack-pile-requires c κs = search needs
 
--- src/lib.rt:244:14
 make-reveal-requires : tie.Need-make-reveal-requires
-make-reveal-requires c κs = ?
+make-reveal-requires c κs =
+    (c .before .pre .0, subst T (legal-last (c .before .args .p) (c .before .args .card) (c .before .args .kind) (none (c .match .rest))) (c .before .pre .1))
 
--- src/lib.rt:235:1
 returns : tie.Need-returns
-returns c = ?
+returns c = c .make-deck-stack .ensures ∙ sym (ap (λ (k : ℕ). made (c .before .before .args .p) k (c .before .before .args .card)) (c .before .match .keys1))
 
--- src/lib.rt:235:1
 returns-2 : tie.Need-returns-2
-returns-2 c = ?
+returns-2 c = c .make-pile-stack .ensures ∙ sym (ap (λ (k : ℕ). made (c .before .before .args .p) k (c .before .before .args .card)) (c .before .match .keys2))
 
--- src/lib.rt:235:1
 returns-3 : tie.Need-returns-3
-returns-3 c = ?
+returns-3 c = c .make-deck-pile .ensures ∙ sym (ap (λ (k : ℕ). made (c .before .before .args .p) k (c .before .before .args .card)) (c .before .match .keys3))
 
--- src/lib.rt:235:1
 returns-4 : tie.Need-returns-4
-returns-4 c = ?
+returns-4 c = c .make-stack-pile .ensures ∙ sym (ap (λ (k : ℕ). made (c .before .before .args .p) k (c .before .before .args .card)) (c .before .match .keys4))
 
--- src/lib.rt:235:1
 returns-5 : tie.Need-returns-5
-returns-5 c = ?
+returns-5 c =
+    let a = c .before .before .args in
+    c .make-reveal .ensures ∙ sym (made-last (a .p) (a .card) (a .kind) (none (c .before .match .rest)))
 
 pub do-move-spec : {M : Type 1} → statement M
 do-move-spec =

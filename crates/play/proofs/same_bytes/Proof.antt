@@ -1,45 +1,50 @@
+-- `play::same_bytes` meets its contract.
+-- Assumes nothing.
+use borrow.Author.Needs.{needs}
+use mathlib.Core.Path.{_≡_, refl, sym, ap, _∙_, subst}
+use Prim.Native.Nat.{ℕ, _≤_, _<_, _-_}
+use native.Mathlib.Omega.{arith}
+use borrow.Author.Count.{below-more}
+use lib.ListN.{getD}
+use Rattle.play.proofs.Same.{bytes-same, bytes-differ}
 use Rattle.play.proofs.same_bytes.Statement.{statement}
 use Rattle.play.proofs.same_bytes.Tie as tie
-use Rattle.play.proofs.same_bytes.Reads as reads
-use Rattle.play.proofs.same_bytes.Lts as lts
 
 abbrev Inv-loop : tie.InvT-loop
-Inv-loop a b n i₀ i = ?
+Inv-loop a b n i₀ i = (i ≤ n) × ((k : ℕ) → k < i → getD a k 0 ≡ getD b k 0)
 
 abbrev μ-loop : tie.MeasureT-loop
-μ-loop a b n i₀ i = ?
+μ-loop a b n i₀ i = n - i
 
--- src/lib.rt:323:5
 loop-holds : tie.Need-loop-holds Inv-loop μ-loop
-loop-holds c = ?
+loop-holds c = search needs
 
--- src/lib.rt:324:12
 shared-slice-read-if1 : tie.Need-shared-slice-read-if1 Inv-loop μ-loop
-shared-slice-read-if1 c = ?
+shared-slice-read-if1 c = omega arith
 
--- src/lib.rt:324:20
 shared-slice-read-if1-2 : tie.Need-shared-slice-read-if1-2 Inv-loop μ-loop
-shared-slice-read-if1-2 c = ?
+shared-slice-read-if1-2 c = omega arith
 
--- src/lib.rt:325:13
 returns : tie.Need-returns Inv-loop μ-loop
-returns c = ?
+returns c =
+    let l = c .before .before .before .before in
+    let b = l .before in
+    sym (bytes-differ (b .args .a .now) (b .args .b .now) (b .args .n) (b .pre .0) (b .pre .1) (l .loop .i) (omega arith) (c .if1 .taken))
 
--- src/lib.rt:327:9
 add-i : tie.Need-add-i Inv-loop μ-loop
-add-i c = ?
+add-i c = omega arith
 
--- src/lib.rt:323:5
 loop-less : tie.Need-loop-less Inv-loop μ-loop
-loop-less c = ?
+loop-less c = omega arith
 
--- src/lib.rt:323:5
 loop-again : tie.Need-loop-again Inv-loop μ-loop
-loop-again c = ?
+loop-again c = (omega arith, below-more _ _ (c .before .before .before .before .loop .inv .1) (c .if1 .left))
 
--- src/lib.rt:318:1
 returns-2 : tie.Need-returns-2 Inv-loop μ-loop
-returns-2 c = ?
+returns-2 c =
+    let l = c .before in
+    let b = l .before in
+    sym (bytes-same (b .args .a .now) (b .args .b .now) (b .args .n) (b .pre .0) (b .pre .1) (λ k m. l .loop .inv .1 k (omega arith)))
 
 pub same-bytes-spec : {M : Type 1} → statement M
 same-bytes-spec =

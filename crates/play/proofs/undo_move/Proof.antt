@@ -1,53 +1,53 @@
+-- `play::undo_move` meets its contract.
+-- Assumes nothing.
 use borrow.Author.Needs.{needs}
+use mathlib.Core.Path.{_≡_, refl, sym, ap, _∙_, subst}
+use Prim.Native.Nat.{ℕ}
+use lib.Dec.{T}
+use Rattle.rules.specs.Proper.{proper}
+use Rattle.rules.specs.Play.{before}
+use Rattle.play.specs.Made.{hasWay}
+use Rattle.play.proofs.LastKind.{none, way-last, before-last}
 use Rattle.play.proofs.undo_move.Statement.{statement}
 use Rattle.play.proofs.undo_move.Tie as tie
-use Rattle.play.proofs.undo_move.Reads as reads
-use Rattle.play.proofs.undo_move.Lts as lts
-use Rattle.play.proofs.unmake_deck_pile.Reads as unmake-deck-pile-reads
-use Rattle.play.proofs.unmake_deck_stack.Reads as unmake-deck-stack-reads
-use Rattle.play.proofs.unmake_pile_stack.Reads as unmake-pile-stack-reads
-use Rattle.play.proofs.unmake_reveal.Reads as unmake-reveal-reads
-use Rattle.play.proofs.unmake_stack_pile.Reads as unmake-stack-pile-reads
 
--- src/lib.rt:313:14
+-- the requires of a kind's function
+of-kind : (c : tie.Start) (k : ℕ) → c .args .kind ≡ k → T (proper (c .args .p)) × T (hasWay (c .args .p) (c .args .byte) k (c .args .card))
+of-kind c k e = (c .pre .0, subst (λ (x : ℕ). T (hasWay (c .args .p) (c .args .byte) x (c .args .card))) e (c .pre .1))
+
 unmake-deck-stack-requires : tie.Need-unmake-deck-stack-requires
-unmake-deck-stack-requires c κs = ?
+unmake-deck-stack-requires c κs = of-kind (c .before) 0 (c .match .keys1)
 
--- src/lib.rt:314:14
 unmake-pile-stack-requires : tie.Need-unmake-pile-stack-requires
-unmake-pile-stack-requires c κs = ?
+unmake-pile-stack-requires c κs = of-kind (c .before) 1 (c .match .keys2)
 
--- src/lib.rt:315:14
 unmake-deck-pile-requires : tie.Need-unmake-deck-pile-requires
-unmake-deck-pile-requires c κs = ?
+unmake-deck-pile-requires c κs = of-kind (c .before) 2 (c .match .keys3)
 
--- src/lib.rt:316:14
 unmake-stack-pile-requires : tie.Need-unmake-stack-pile-requires
 unmake-stack-pile-requires c κs = search needs
 
--- src/lib.rt:317:14
 unmake-reveal-requires : tie.Need-unmake-reveal-requires
-unmake-reveal-requires c κs = ?
+unmake-reveal-requires c κs =
+    let a = c .before .args in
+    (c .before .pre .0, subst T (way-last (a .p) (a .card) (a .kind) (none (c .match .rest)) (a .byte)) (c .before .pre .1))
 
--- src/lib.rt:308:1
 returns : tie.Need-returns
-returns c = ?
+returns c = c .unmake-deck-stack .ensures ∙ sym (ap (λ (k : ℕ). before (c .before .before .args .p) (c .before .before .args .byte) k (c .before .before .args .card)) (c .before .match .keys1))
 
--- src/lib.rt:308:1
 returns-2 : tie.Need-returns-2
-returns-2 c = ?
+returns-2 c = c .unmake-pile-stack .ensures ∙ sym (ap (λ (k : ℕ). before (c .before .before .args .p) (c .before .before .args .byte) k (c .before .before .args .card)) (c .before .match .keys2))
 
--- src/lib.rt:308:1
 returns-3 : tie.Need-returns-3
-returns-3 c = ?
+returns-3 c = c .unmake-deck-pile .ensures ∙ sym (ap (λ (k : ℕ). before (c .before .before .args .p) (c .before .before .args .byte) k (c .before .before .args .card)) (c .before .match .keys3))
 
--- src/lib.rt:308:1
 returns-4 : tie.Need-returns-4
-returns-4 c = ?
+returns-4 c = c .unmake-stack-pile .ensures ∙ sym (ap (λ (k : ℕ). before (c .before .before .args .p) (c .before .before .args .byte) k (c .before .before .args .card)) (c .before .match .keys4))
 
--- src/lib.rt:308:1
 returns-5 : tie.Need-returns-5
-returns-5 c = ?
+returns-5 c =
+    let a = c .before .before .args in
+    c .unmake-reveal .ensures ∙ sym (before-last (a .p) (a .card) (a .kind) (none (c .before .match .rest)) (a .byte))
 
 pub undo-move-spec : {M : Type 1} → statement M
 undo-move-spec =

@@ -1,22 +1,29 @@
+-- `play::unmake_reveal` meets its contract.
+-- Assumes nothing.
 use borrow.Author.Needs.{needs}
+use mathlib.Core.Path.{_≡_, refl, sym, ap, _∙_, subst}
+use Prim.Native.Nat.{ℕ, _<_}
+use Rattle.rules.specs.Places.{pileOf}
+use Rattle.rules.specs.Play.{turnedBack, before}
+use Rattle.play.proofs.Known.{counts-fit, bare-at, reveal-way}
 use Rattle.play.proofs.unmake_reveal.Statement.{statement}
 use Rattle.play.proofs.unmake_reveal.Tie as tie
-use Rattle.play.proofs.unmake_reveal.Reads as reads
-use Rattle.play.proofs.unmake_reveal.Lts as lts
-use Rattle.play.proofs.bare_pile.Reads as bare-pile-reads
-use Rattle.play.proofs.turn_back.Reads as turn-back-reads
 
--- src/lib.rt:300:18
+pile : (c : tie.After-bare-pile) → (c .bare-pile .result ≡ pileOf (c .before .args .p) (c .before .args .card)) × (c .bare-pile .result < 7)
+pile c =
+    let a = c .before .args in
+    let h = bare-at (a .p) (c .before .pre .0) (a .card) (reveal-way (a .p) (a .byte) (a .card) (c .before .pre .1)) in
+    (c .bare-pile .ensures ∙ h .0, subst (λ (i : ℕ). i < 7) (sym (c .bare-pile .ensures)) (h .1))
+
 bare-pile-requires : tie.Need-bare-pile-requires
 bare-pile-requires c κs = search needs
 
--- src/lib.rt:300:5
 turn-back-requires : tie.Need-turn-back-requires
-turn-back-requires c κs = ?
+turn-back-requires c κs = (pile c .1, counts-fit (c .before .args .p) (c .before .pre .0))
 
--- src/lib.rt:296:1
 returns : tie.Need-returns
-returns c = ?
+unfolding before
+returns c = c .turn-back .ensures ∙ ap (turnedBack (c .before .before .args .p)) (pile (c .before) .0)
 
 pub unmake-reveal-spec : {M : Type 1} → statement M
 unmake-reveal-spec = tie.close (tie.spec bare-pile-requires turn-back-requires returns)
