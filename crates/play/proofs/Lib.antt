@@ -6,3 +6,4 @@ pub mod EachKind
 pub mod Pushed
 pub mod LastKind
 pub mod Same
+pub mod Answered

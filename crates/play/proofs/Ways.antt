@@ -1,6 +1,6 @@
 -- An entry that has no way back is impossible: the tests that go before the unmaking refuse nothing that undo would grant.
 -- Assumes nothing.
-use mathlib.Core.Bool.{Bool, true, false, _&&_, _||_, cond, true≢false}
+use mathlib.Core.Bool.{Bool, true, false, _&&_, _||_, cond, and-false, true≢false}
 use mathlib.Core.Path.{_≡_, refl, sym, ap, ap₂, _∙_, subst}
 use mathlib.Core.List.{List}
 use Prim.Native.Nat.{ℕ, zero, suc, _+_, _-_, _≤_, _<_}
@@ -97,12 +97,18 @@ module _ (p : Position) (byte c : ℕ) (long : length (p .counts) ≡ 7) where
 -- ---- refusal 15, by what the code asks in turn
 
 module _ (p : Position) (e : ℕ) where
-  abbrev back : Position
+  abbrev pub back : Position
   back = before p (entryByte e) (entryKind e) (entryCard e)
 
-  pub undoable-is : undoable p e ≡ (isKindAndCard (entryKind e) (entryCard e) && leadsTo back (entryByte e) (entryKind e) (entryCard e) p)
+  abbrev pub leads : Bool
+  leads = leadsTo back (entryByte e) (entryKind e) (entryCard e) p
+
+  abbrev isMove : Bool
+  isMove = isKindAndCard (entryKind e) (entryCard e)
+
+  pub undoable-is : undoable p e ≡ (isMove && leads)
   unfolding undoable leadsTo stepBack
-  undoable-is = go (isKindAndCard (entryKind e) (entryCard e))
+  undoable-is = go isMove
     where
       t : Bool → Bool
       t b = b && proper back && legal back (entryKind e) (entryCard e) && eqb (undoByte back (entryKind e) (entryCard e)) (entryByte e) && samePosition (after back (entryKind e) (entryCard e)) p
@@ -118,6 +124,15 @@ module _ (p : Position) (e : ℕ) where
       (λ u.
       let w = passes p e u in
       true≢false (sym (has-way p (entryByte e) (entryCard e) long (entryKind e) (w .isProper) (w .isLegal) (w .isByte)) ∙ h))
+
+  pub not-move : isMove ≡ false → undoable p e ≡ false
+  not-move h = undoable-is ∙ ap (λ (b : Bool). b && leads) h
+
+  pub not-led : leads ≡ false → undoable p e ≡ false
+  not-led h = undoable-is ∙ ap (λ (b : Bool). isMove && b) h ∙ and-false isMove
+
+  pub led : isMove ≡ true → leads ≡ true → undoable p e ≡ true
+  led k h = undoable-is ∙ and-both isMove leads k h
 
   pub none-is : undoable p e ≡ false → record { possible = false; position = p } ≡ undone p e
   unfolding undone

@@ -1,44 +1,67 @@
+-- `play::leads_to` meets its contract.
+-- Assumes nothing.
 use borrow.Author.Needs.{needs}
+use mathlib.Core.Path.{_≡_, refl, sym, ap, _∙_, subst}
+use mathlib.Core.Bool.{true}
+use lib.Dec.{eqb}
+use borrow.Author.Tests.{eq-eqb, ne-eqb}
+use Rattle.bits.proofs.Tables.{true-T}
+use Rattle.rules.specs.Play.{after}
+use Rattle.rules.proofs.Facts.{facts}
+use Rattle.laws.proofs.Moving.{after-deal}
+use Rattle.play.specs.declared.Made.{Made}
+use Rattle.play.specs.Made.{made, sameInDeal, leadsTo}
+use Rattle.play.proofs.Answered.{denied, granted}
+use Rattle.play.proofs.Same.{same-is}
 use Rattle.play.proofs.leads_to.Statement.{statement}
 use Rattle.play.proofs.leads_to.Tie as tie
-use Rattle.play.proofs.leads_to.Reads as reads
-use Rattle.play.proofs.leads_to.Lts as lts
-use Rattle.play.proofs.do_move.Reads as do-move-reads
-use Rattle.play.proofs.same_in_deal.Reads as same-in-deal-reads
-use Rattle.proper.proofs.is_proper.Reads as is-proper-reads
-use Rattle.state.proofs.is_valid_move.Reads as is-valid-move-reads
 
--- src/lib.rt:373:9
 is-proper-requires : tie.Need-is-proper-requires
 is-proper-requires c κs = search needs
 
--- src/lib.rt:374:9
 returns : tie.Need-returns
-returns c = ?
+unfolding leadsTo
+returns c = rw (denied (c .before .is-proper .ensures) (c .if1 .taken))
 
--- src/lib.rt:376:9
 is-valid-move-requires : tie.Need-is-valid-move-requires
-is-valid-move-requires c κs = ?
+is-valid-move-requires c κs = (true-T _ (granted (c .before .is-proper .ensures) (c .if1 .left)), c .before .before .pre .0)
 
--- src/lib.rt:377:9
 returns-2 : tie.Need-returns-2
-returns-2 c = ?
+unfolding leadsTo
+returns-2 c =
+    let d = c .before .before in
+    rw (granted (d .before .is-proper .ensures) (d .if1 .left), denied (c .before .is-valid-move .ensures) (c .if2 .taken))
 
--- src/lib.rt:379:9
 do-move-requires : tie.Need-do-move-requires
-do-move-requires c κs = ?
+do-move-requires c κs =
+    let d = c .before .before in
+    (true-T _ (granted (d .before .is-proper .ensures) (d .if1 .left)), true-T _ (granted (c .before .is-valid-move .ensures) (c .if2 .left)))
 
--- src/lib.rt:381:9
 returns-3 : tie.Need-returns-3
-returns-3 c = ?
+unfolding leadsTo made
+returns-3 c =
+    let m = c .before .before in
+    let e = m .before in
+    let d = e .before .before in
+    let byte = d .before .before .args .byte in
+    rw (granted (d .before .is-proper .ensures) (d .if1 .left), granted (e .before .is-valid-move .ensures) (e .if2 .left), ap (λ (x : Made). eqb (x .byte) byte) (sym (m .do-move .ensures)) ∙ ne-eqb _ _ (c .if3 .taken))
 
--- src/lib.rt:384:5
 same-in-deal-requires : tie.Need-same-in-deal-requires
-same-in-deal-requires c κs = ?
+same-in-deal-requires c κs =
+    let b = c .before .before .before .before .before .before .before .before in
+    facts (b .args .p) (b .pre .1) .left
 
--- src/lib.rt:369:1
 returns-4 : tie.Need-returns-4
-returns-4 c = ?
+unfolding leadsTo made
+returns-4 c =
+    let f = c .before .before in
+    let m = f .before .before in
+    let e = m .before in
+    let d = e .before .before in
+    let b = d .before .before in
+    let a = b .args in
+    rw (granted (d .before .is-proper .ensures) (d .if1 .left), granted (e .before .is-valid-move .ensures) (e .if2 .left), ap (λ (x : Made). eqb (x .byte) (a .byte)) (sym (m .do-move .ensures)) ∙ eq-eqb _ _ (f .if3 .left))
+    (c .same-in-deal .ensures ∙ ap (λ (x : Made). sameInDeal (x .position) (a .p)) (m .do-move .ensures) ∙ sym (same-is (after (a .q) (a .kind) (a .card)) (a .p) (after-deal (a .q) (a .kind) (a .card) ∙ b .pre .2)))
 
 pub leads-to-spec : {M : Type 1} → statement M
 leads-to-spec =

@@ -26,11 +26,16 @@ cast-same-bytes : tie.Need-cast-same-bytes
 cast-same-bytes c = search needs
 
 same-bytes-requires : tie.Need-same-bytes-requires
-same-bytes-requires c κs = ?
+same-bytes-requires c κs =
+    let b = c .before .before .before .before .before .before in
+    (omega (arith, b .pre, shape (b .args .p) _ (b .good .0) .deck), omega (arith, b .pre, shape (b .args .q) _ (b .good .1 .0) .deck))
 
 returns-2 : tie.Need-returns-2
 unfolding sameDeck
-returns-2 c = ?
+returns-2 c =
+    let a = c .before .before .before .before .before .before .before .args in
+    let e : a .p .left ≡ a .q .left = c .before .before .before .if1 .left in
+    rw (eq-eqb _ _ e) (c .same-bytes .ensures ∙ ap (λ (n : ℕ). sameList (take n (a .p .deck)) (take (a .q .left) (a .q .deck))) (sym e))
 
 pub same-deck-spec : {M : Type 1} → statement M
 same-deck-spec =

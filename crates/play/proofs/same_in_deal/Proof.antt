@@ -1,47 +1,62 @@
+-- `play::same_in_deal` meets its contract.
+-- Assumes nothing.
 use borrow.Author.Needs.{needs}
+use mathlib.Core.Path.{_≡_, refl, sym, ap, _∙_, subst}
+use mathlib.Core.Bool.{true}
+use lib.Dec.{eqb}
+use borrow.Author.Tests.{eq-eqb, ne-eqb}
+use Rattle.rules.specs.Bits.{sameList}
+use Rattle.play.specs.Made.{sameDeck, sameInDeal}
+use Rattle.play.proofs.Answered.{denied, granted}
 use Rattle.play.proofs.same_in_deal.Statement.{statement}
 use Rattle.play.proofs.same_in_deal.Tie as tie
-use Rattle.play.proofs.same_in_deal.Reads as reads
-use Rattle.play.proofs.same_in_deal.Lts as lts
-use Rattle.play.proofs.same_counts.Reads as same-counts-reads
-use Rattle.play.proofs.same_deck.Reads as same-deck-reads
-use Rattle.play.proofs.same_heights.Reads as same-heights-reads
 
--- src/lib.rt:372:9
 returns : tie.Need-returns
-returns c = ?
+unfolding sameInDeal
+returns c = rw (ne-eqb _ _ (c .if1 .taken))
 
--- src/lib.rt:374:9
 same-counts-requires : tie.Need-same-counts-requires
 same-counts-requires c κs = search needs
 
--- src/lib.rt:375:9
 returns-2 : tie.Need-returns-2
-returns-2 c = ?
+unfolding sameInDeal
+returns-2 c = rw (eq-eqb _ _ (c .before .before .if1 .left), denied (c .before .same-counts .ensures) (c .if2 .taken))
 
--- src/lib.rt:377:9
 same-heights-requires : tie.Need-same-heights-requires
 same-heights-requires c κs = search needs
 
--- src/lib.rt:378:9
 returns-3 : tie.Need-returns-3
-returns-3 c = ?
+unfolding sameInDeal
+returns-3 c =
+    let d = c .before .before in
+    rw (eq-eqb _ _ (d .before .before .if1 .left), granted (d .before .same-counts .ensures) (d .if2 .left), denied (c .before .same-heights .ensures) (c .if3 .taken))
 
--- src/lib.rt:380:9
 same-deck-requires : tie.Need-same-deck-requires
 same-deck-requires c κs = search needs
 
--- src/lib.rt:381:9
 returns-4 : tie.Need-returns-4
-returns-4 c = ?
+unfolding sameInDeal
+returns-4 c =
+    let e = c .before .before in
+    let d = e .before .before in
+    rw (eq-eqb _ _ (d .before .before .if1 .left), granted (d .before .same-counts .ensures) (d .if2 .left), granted (e .before .same-heights .ensures) (e .if3 .left), denied (c .before .same-deck .ensures) (c .if4 .taken))
 
--- src/lib.rt:384:9
 returns-5 : tie.Need-returns-5
-returns-5 c = ?
+unfolding sameInDeal
+returns-5 c =
+    let f = c .before .before .before in
+    let e = f .before .before in
+    let d = e .before .before in
+    rw (eq-eqb _ _ (d .before .before .if1 .left), granted (d .before .same-counts .ensures) (d .if2 .left), granted (e .before .same-heights .ensures) (e .if3 .left), granted (f .before .same-deck .ensures) (f .if4 .left), ne-eqb _ _ (c .if5 .taken))
 
--- src/lib.rt:367:1
 returns-6 : tie.Need-returns-6
-returns-6 c = ?
+unfolding sameInDeal
+returns-6 c =
+    let g = c .before .before in
+    let f = g .before .before .before in
+    let e = f .before .before in
+    let d = e .before .before in
+    rw (eq-eqb _ _ (d .before .before .if1 .left), granted (d .before .same-counts .ensures) (d .if2 .left), granted (e .before .same-heights .ensures) (e .if3 .left), granted (f .before .same-deck .ensures) (f .if4 .left), eq-eqb _ _ (g .if5 .left))
 
 pub same-in-deal-spec : {M : Type 1} → statement M
 same-in-deal-spec =

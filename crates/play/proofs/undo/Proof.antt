@@ -1,55 +1,82 @@
+-- `play::undo` meets its contract.
+-- Assumes nothing.
 use borrow.Author.Needs.{needs}
+use mathlib.Core.Path.{_≡_, refl, sym, ap, _∙_, subst}
+use mathlib.Core.Bool.{true, false}
+use native.Mathlib.Omega.{arith}
+use borrow.Author.Tests.{le-leb, lt-leb}
+use Rattle.bits.proofs.Tables.{true-T}
+use Rattle.rules.specs.declared.Position.{Position}
+use Rattle.rules.specs.History.{entryByte, entryKind, entryCard, isKindAndCard}
+use Rattle.rules.proofs.Shape.{shape}
+use Rattle.rules.proofs.UndoLaw.{kept-deal}
+use Rattle.play.specs.Made.{leadsTo}
+use Rattle.play.proofs.Answered.{denied, granted}
+use Rattle.play.proofs.Ways.{leads, no-way, not-move, not-led, led, none-is, some-is}
 use Rattle.play.proofs.undo.Statement.{statement}
 use Rattle.play.proofs.undo.Tie as tie
-use Rattle.play.proofs.undo.Reads as reads
-use Rattle.play.proofs.undo.Lts as lts
-use Rattle.play.proofs.has_way.Reads as has-way-reads
-use Rattle.play.proofs.leads_to.Reads as leads-to-reads
-use Rattle.play.proofs.undo_move.Reads as undo-move-reads
 
--- src/lib.rt:396:16
 cast-byte : tie.Need-cast-byte
 cast-byte c = search needs
 
--- src/lib.rt:397:16
 cast-kind : tie.Need-cast-kind
 cast-kind c = search needs
 
--- src/lib.rt:398:16
 cast-card : tie.Need-cast-card
 cast-card c = search needs
 
--- src/lib.rt:400:9
 returns : tie.Need-returns
-returns c = ?
+unfolding isKindAndCard entryKind entryCard
+returns c =
+    let a = c .before .args in
+    none-is (a .p) (a .entry) (not-move (a .p) (a .entry) (rw (lt-leb _ _ (c .if1 .taken))))
 
--- src/lib.rt:403:9
 returns-2 : tie.Need-returns-2
-returns-2 c = ?
+unfolding isKindAndCard entryKind entryCard
+returns-2 c =
+    let a = c .before .before .args in
+    none-is (a .p) (a .entry) (not-move (a .p) (a .entry) (rw (le-leb _ _ (c .before .if1 .left), lt-leb _ _ (c .if2 .taken))))
 
--- src/lib.rt:405:9
 has-way-requires : tie.Need-has-way-requires
 has-way-requires c κs = search needs
 
--- src/lib.rt:406:9
 returns-3 : tie.Need-returns-3
-returns-3 c = ?
+unfolding entryByte entryKind entryCard
+returns-3 c =
+    let b = c .before .before .before .before in
+    let a = b .args in
+    none-is (a .p) (a .entry) (no-way (a .p) (a .entry) (shape (a .p) _ (b .good .0) .counts) (denied (c .before .has-way .ensures) (c .if3 .taken)))
 
--- src/lib.rt:408:9
 undo-move-requires : tie.Need-undo-move-requires
-undo-move-requires c κs = ?
+undo-move-requires c κs = (c .before .before .before .before .pre, true-T _ (granted (c .before .has-way .ensures) (c .if3 .left)))
 
--- src/lib.rt:409:9
 leads-to-requires : tie.Need-leads-to-requires
-leads-to-requires c κs = ?
+leads-to-requires c κs =
+    let d = c .before .before .before in
+    let b = d .before .before in
+    let a = b .args in
+    (omega (arith, d .if2 .left), b .pre, ap (λ (q : Position). q .deal) (c .undo-move .ensures) ∙ kept-deal (a .p) _ _ _)
 
--- src/lib.rt:410:9
+-- what was asked of the position gone back to
+asked : (c : tie.After-leads-to) → c .leads-to .result ≡ leads (c .before .before .before .before .before .before .args .p) (c .before .before .before .before .before .before .args .entry)
+unfolding entryByte entryKind entryCard
+asked c =
+    let a = c .before .before .before .before .before .before .args in
+    c .leads-to .ensures ∙ ap (λ (q : Position). leadsTo q (entryByte (a .entry)) (entryKind (a .entry)) (entryCard (a .entry)) (a .p)) (c .before .undo-move .ensures)
+
 returns-4 : tie.Need-returns-4
-returns-4 c = ?
+unfolding entryByte entryKind entryCard
+returns-4 c =
+    let a = c .before .before .before .before .before .before .before .args in
+    none-is (a .p) (a .entry) (not-led (a .p) (a .entry) (denied (asked (c .before)) (c .if4 .taken)))
 
--- src/lib.rt:388:1
 returns-5 : tie.Need-returns-5
-returns-5 c = ?
+unfolding isKindAndCard entryByte entryKind entryCard
+returns-5 c =
+    let u = c .before .before in
+    let d = u .before .before .before in
+    let a = d .before .before .args in
+    rw (u .undo-move .ensures) (some-is (a .p) (a .entry) (led (a .p) (a .entry) (rw (le-leb _ _ (d .before .if1 .left), le-leb _ _ (d .if2 .left))) (granted (asked (c .before)) (c .if4 .left))))
 
 pub undo-spec : {M : Type 1} → statement M
 undo-spec =
