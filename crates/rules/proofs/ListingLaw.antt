@@ -13,10 +13,9 @@ use borrow.Author.Tests.{eq-eqb, ne-eqb, ltb-true, ltb-false}
 use Rattle.bits.proofs.Laws.{bit-high}
 use Rattle.bits.proofs.Counts.{list-length}
 use Rattle.rules.specs.declared.Masks.{Masks}
-use Rattle.rules.specs.Bits.{num, consIf, bit, listOf}
+use Rattle.rules.specs.Bits.{num, consIf, bit, listOf, times}
 use Rattle.rules.specs.Legal.{listed, listing}
 use Rattle.rules.specs.Pruned.{size}
-use Rattle.rules.specs.Demands.{times}
 use Rattle.rules.specs.Moves.{CardMasks, ofKind, moveCount}
 
 -- ---- a list of numbers below n alone

@@ -61,15 +61,17 @@ loop-less : tie.Need-loop-less Inv-loop μ-loop
 loop-less c = search needs
 
 loop-again : tie.Need-loop-again Inv-loop μ-loop
-loop-again c = 
+loop-again c =
     let b = c .before .before .before .before in
-    let d = b .before .args .deal .now in
-    (omega arith, rw (b .loop .inv .1) (picked-step (λ j. eqb (getD (b .before .args .counts .now) j 0) 1) (λ j. placed d j 0) (b .loop .i) _ (card (c .before .before))
-    (λ t. ap (λ (k : ℕ). getD d k 0) (omega (arith, c .before .before .pile-start .ensures)))))
+    let d = b .before .args .deal .now in (
+      omega arith,
+      rw (b .loop .inv .1) (picked-step (λ j. eqb (getD (b .before .args .counts .now) j 0) 1) (λ j. placed d j 0) (b .loop .i) _ (card (c .before .before))
+          (λ t. ap (λ (k : ℕ). getD d k 0) (omega (arith, c .before .before .pile-start .ensures)))),
+    )
 
 returns : tie.Need-returns Inv-loop μ-loop
 unfolding aloneIn
-returns c = 
+returns c =
     let e : c .before .loop .i ≡ 7 = omega arith in
     rw e at (c .before .loop .inv .1)
 

@@ -54,7 +54,7 @@ sub-cards-from : tie.Need-sub-cards-from Inv-loop μ-loop
 sub-cards-from c = some-le (count-of (c .before .before .before))
 
 cards-from-requires : tie.Need-cards-from-requires Inv-loop μ-loop
-cards-from-requires c κs = 
+cards-from-requires c κs =
     let i = c .before .before .before .before .loop .i in
     omega (arith, last-place i (count-of (c .before .before .before)) (c .pile-start .result) (c .before .before .before .loop-test .taken) (fits (c .before .before .before)) (c .pile-start .ensures))
 
@@ -65,14 +65,14 @@ loop-less : tie.Need-loop-less Inv-loop μ-loop
 loop-less c = search needs
 
 loop-again : tie.Need-loop-again Inv-loop μ-loop
-loop-again c = 
+loop-again c =
     let b = c .before .before .before .before .before in
     let n = count-of (c .before .before .before .before) in
     (omega arith, rw (b .loop .inv .1) (fronts-step (b .before .args .deal .now) (λ j. getD (b .before .args .counts .now) j 0 - 1) (b .loop .i) (c .before .pile-start .result) (n - boolByte (ltb 0 n)) (c .cards-from .result) (b .before .pre .0) (omega arith) (omega (arith, fits (c .before .before .before .before))) (c .before .pile-start .ensures) (less-one n) (c .cards-from .ensures)))
 
 returns : tie.Need-returns Inv-loop μ-loop
 unfolding buriedIn
-returns c = 
+returns c =
     let e : c .before .loop .i ≡ 7 = omega arith in
     rw e at (c .before .loop .inv .1)
 

@@ -31,7 +31,7 @@ abbrev μ-loop : tie.MeasureT-loop
 μ-loop field counts₀ rest₀ i₀ counts rest i = 7 - i
 
 returns : tie.Need-returns Inv-loop μ-loop
-returns c = 
+returns c =
     let e = le-ltb (c .before .args .field) 40320 (c .if1 .taken) in
     (sym e, rw e refl)
 
@@ -63,7 +63,7 @@ loop-less : tie.Need-loop-less Inv-loop μ-loop
 loop-less c = search needs
 
 loop-again : tie.Need-loop-again Inv-loop μ-loop
-loop-again c = 
+loop-again c =
     let l = c .before .loop in
     let x = c .before .before .before .args .field in
     let v : l .rest % (l .i + 2) ≡ fieldCount x (l .i) = ap (λ (r : ℕ). r % (l .i + 2)) (l .inv .over) in
@@ -77,7 +77,7 @@ loop-again c =
     }
 
 returns-2 : tie.Need-returns-2 Inv-loop μ-loop
-returns-2 c = 
+returns-2 c =
     let l = c .before .loop in
     let x = c .before .before .before .args .field in
     let e = lt-ltb x 40320 (c .before .before .if1 .left) in

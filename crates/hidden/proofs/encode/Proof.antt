@@ -61,7 +61,7 @@ loop-again c = (omega arith, after (c .before))
 
 returns : tie.Need-returns Inv-loop μ-loop
 unfolding countsField
-returns c = 
+returns c =
     let e : c .before .loop .i ≡ 0 = omega arith in
     rw e at (c .before .loop .inv .1) ∙ field-whole (λ j. getD (c .before .before .args .counts .now) j 0)
 

@@ -54,13 +54,13 @@ add-if2 : tie.Need-add-if2 Inv-loop μ-loop
 add-if2 c = search needs
 
 element-copy-out-if2 : tie.Need-element-copy-out-if2 Inv-loop μ-loop
-element-copy-out-if2 c = 
+element-copy-out-if2 c =
     let b = c .before .before .before in
     omega (arith, in-deal (b .before .loop .i) (count-of b + 1) (c .pile-start .result) (b .loop-test .taken) (omega (arith, c .before .if1 .taken)) (c .pile-start .ensures))
 
 returns : tie.Need-returns Inv-loop μ-loop
 unfolding barePile
-returns c = 
+returns c =
     let b = c .before .before .before .before .before in
     let d = b .before .before .args .deal .now in
     let x = b .before .before .args .card in
@@ -78,24 +78,26 @@ loop-less : tie.Need-loop-less Inv-loop μ-loop
 loop-less c = search needs
 
 loop-again : tie.Need-loop-again Inv-loop μ-loop
-loop-again c = 
+loop-again c =
     let b = c .before .before in
     let d = b .before .before .args .deal .now in
     let x = b .before .before .args .card in
     let i = b .before .loop .i in
-    let n = count-of b in
-    (omega arith, below-more _ _ (b .before .loop .inv .1)
-    (⊎-elim
-    (λ w t.
-    let s = w .1 .result in
-    let k : s + n ≡ pileStart i + n = omega (arith, w .1 .ensures, w .0 .taken) in
-    true≢false (sym (and-right (leb n i) (eqb (getD d (pileStart i + n) 0) x) t) ∙ ap (λ (y : ℕ). eqb (getD d y 0) x) (sym k) ∙ w .3 .left))
-    (λ w t. omega (arith, w .left, leb-true n i (and-left (leb n i) (eqb (getD d (pileStart i + n) 0) x) t)))
-    (c .if1 .came)))
+    let n = count-of b in (
+      omega arith,
+      below-more _ _ (b .before .loop .inv .1)
+          (⊎-elim
+          (λ w t.
+          let s = w .1 .result in
+          let k : s + n ≡ pileStart i + n = omega (arith, w .1 .ensures, w .0 .taken) in
+          true≢false (sym (and-right (leb n i) (eqb (getD d (pileStart i + n) 0) x) t) ∙ ap (λ (y : ℕ). eqb (getD d y 0) x) (sym k) ∙ w .3 .left))
+          (λ w t. omega (arith, w .left, leb-true n i (and-left (leb n i) (eqb (getD d (pileStart i + n) 0) x) t)))
+          (c .if1 .came)),
+    )
 
 returns-2 : tie.Need-returns-2 Inv-loop μ-loop
 unfolding barePile
-returns-2 c = 
+returns-2 c =
     let e : c .before .loop .i ≡ 7 = omega arith in
     e ∙ sym (first-none 7 _ (rw e at (c .before .loop .inv .1)))
 

@@ -64,7 +64,7 @@ element-copy-out-if2 c = omega (arith, place c)
 
 returns : tie.Need-returns Inv-loop μ-loop
 unfolding headPile
-returns c = 
+returns c =
     let b = c .before .before .before .before .before in
     let d = b .before .before .args .deal .now in
     let x = b .before .before .args .card in
@@ -82,24 +82,26 @@ loop-less : tie.Need-loop-less Inv-loop μ-loop
 loop-less c = search needs
 
 loop-again : tie.Need-loop-again Inv-loop μ-loop
-loop-again c = 
+loop-again c =
     let b = c .before .before in
     let d = b .before .before .args .deal .now in
     let x = b .before .before .args .card in
     let i = b .before .loop .i in
-    let n = count-of b in
-    (omega arith, below-more _ _ (b .before .loop .inv .1)
-    (⊎-elim
-    (λ w t.
-    let s = w .1 .result in
-    let k : s + n - 1 ≡ pileStart i + (n - 1) = omega (arith, w .1 .ensures, w .0 .taken) in
-    true≢false (sym (and-right (ltb 0 n) (eqb (getD d (pileStart i + (n - 1)) 0) x) t) ∙ ap (λ (y : ℕ). eqb (getD d y 0) x) (sym k) ∙ w .3 .left))
-    (λ w t. omega (arith, w .left, ltb-true 0 n (and-left (ltb 0 n) (eqb (getD d (pileStart i + (n - 1)) 0) x) t)))
-    (c .if1 .came)))
+    let n = count-of b in (
+      omega arith,
+      below-more _ _ (b .before .loop .inv .1)
+          (⊎-elim
+          (λ w t.
+          let s = w .1 .result in
+          let k : s + n - 1 ≡ pileStart i + (n - 1) = omega (arith, w .1 .ensures, w .0 .taken) in
+          true≢false (sym (and-right (ltb 0 n) (eqb (getD d (pileStart i + (n - 1)) 0) x) t) ∙ ap (λ (y : ℕ). eqb (getD d y 0) x) (sym k) ∙ w .3 .left))
+          (λ w t. omega (arith, w .left, ltb-true 0 n (and-left (ltb 0 n) (eqb (getD d (pileStart i + (n - 1)) 0) x) t)))
+          (c .if1 .came)),
+    )
 
 returns-2 : tie.Need-returns-2 Inv-loop μ-loop
 unfolding headPile
-returns-2 c = 
+returns-2 c =
     let e : c .before .loop .i ≡ 7 = omega arith in
     e ∙ sym (first-none 7 _ (rw e at (c .before .loop .inv .1)))
 

@@ -78,16 +78,18 @@ loop-less : tie.Need-loop-less Inv-loop μ-loop
 loop-less c = search needs
 
 loop-again : tie.Need-loop-again Inv-loop μ-loop
-loop-again c = 
+loop-again c =
     let b = c .before .before .before .before in
     let d = b .before .args .deal .now in
-    let x = count-of (c .before .before .before) in
-    (omega arith, rw (b .loop .inv .1) (picked-step (λ j. ltb 0 (getD (b .before .args .counts .now) j 0)) (λ j. placed d j (getD (b .before .args .counts .now) j 0 - 1)) (b .loop .i) _ (card (c .before))
-    (λ t. ap (λ (k : ℕ). getD d k 0) (rw t (omega (arith, ltb-true 0 x t, c .before .pile-start .ensures))))))
+    let x = count-of (c .before .before .before) in (
+      omega arith,
+      rw (b .loop .inv .1) (picked-step (λ j. ltb 0 (getD (b .before .args .counts .now) j 0)) (λ j. placed d j (getD (b .before .args .counts .now) j 0 - 1)) (b .loop .i) _ (card (c .before))
+          (λ t. ap (λ (k : ℕ). getD d k 0) (rw t (omega (arith, ltb-true 0 x t, c .before .pile-start .ensures))))),
+    )
 
 returns : tie.Need-returns Inv-loop μ-loop
 unfolding headIn
-returns c = 
+returns c =
     let e : c .before .loop .i ≡ 7 = omega arith in
     rw e at (c .before .loop .inv .1)
 

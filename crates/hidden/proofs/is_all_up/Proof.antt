@@ -32,7 +32,7 @@ element-copy-out-if1 c = search needs
 
 returns : tie.Need-returns Inv-loop μ-loop
 unfolding allUp
-returns c = 
+returns c =
     let n = getD (c .before .before .before .before .args .counts .now) (c .before .before .before .loop .i) 0 in
     sym (no-all 7 _ (c .before .before .before .loop .i) (c .before .before .loop-test .taken) (lt-leb n 1 (c .if1 .taken)))
 
@@ -43,13 +43,13 @@ loop-less : tie.Need-loop-less Inv-loop μ-loop
 loop-less c = search needs
 
 loop-again : tie.Need-loop-again Inv-loop μ-loop
-loop-again c = 
+loop-again c =
     let n = getD (c .before .before .before .before .args .counts .now) (c .before .before .before .loop .i) 0 in
     (omega arith, all-more (c .before .before .before .loop .i) _ (c .before .before .before .loop .inv .1) (le-leb n 1 (c .if1 .left)))
 
 returns-2 : tie.Need-returns-2 Inv-loop μ-loop
 unfolding allUp
-returns-2 c = 
+returns-2 c =
     let e : c .before .loop .i ≡ 7 = omega arith in
     sym (rw e at (c .before .loop .inv .1))
 

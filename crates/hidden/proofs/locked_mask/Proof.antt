@@ -47,7 +47,7 @@ cast-cards-from-2 : tie.Need-cast-cards-from-2 Inv-loop μ-loop
 cast-cards-from-2 c = omega (arith, fits (c .before .before .before))
 
 cards-from-requires : tie.Need-cards-from-requires Inv-loop μ-loop
-cards-from-requires c κs = 
+cards-from-requires c κs =
     let i = c .before .before .before .before .loop .i in
     omega (arith, in-deal i (count-of (c .before .before .before)) (c .before .pile-start .result) (c .before .before .before .loop-test .taken) (fits (c .before .before .before)) (c .before .pile-start .ensures))
 
@@ -58,14 +58,14 @@ loop-less : tie.Need-loop-less Inv-loop μ-loop
 loop-less c = search needs
 
 loop-again : tie.Need-loop-again Inv-loop μ-loop
-loop-again c = 
+loop-again c =
     let b = c .before .before .before .before .before in
     let n = count-of (c .before .before .before .before) in
     (omega arith, rw (b .loop .inv .1) (fronts-step (b .before .args .deal .now) (λ j. getD (b .before .args .counts .now) j 0) (b .loop .i) (c .before .before .pile-start .result) n (c .cards-from .result) (b .before .pre .0) (omega arith) (fits (c .before .before .before .before)) (c .before .before .pile-start .ensures) refl (c .cards-from .ensures)))
 
 returns : tie.Need-returns Inv-loop μ-loop
 unfolding lockedIn
-returns c = 
+returns c =
     let e : c .before .loop .i ≡ 7 = omega arith in
     rw e at (c .before .loop .inv .1)
 

@@ -31,7 +31,7 @@ array-write-after c = search needs
 
 returns : tie.Need-returns
 unfolding oneLess underIn
-returns c = 
+returns c =
     let n = getD (c .before .args .t2) (c .before .args .pile) 0 in
     let z : _≡_ {A = ℕ} 0 (n - 1) = omega (arith, c .if1 .taken) in
     (ap (set (c .before .args .t2) (c .before .args .pile)) z, sym (ap (λ (b : Bool). cond b (Card (record { 0 = placed (c .before .args .deal .now) (c .before .args .pile) (n - 2) })) Emptied) (le-ltb 1 n (omega (arith, c .if1 .taken)))))
@@ -62,7 +62,7 @@ element-copy-out-t11 c = omega (arith, place c)
 
 returns-2 : tie.Need-returns-2
 unfolding oneLess underIn
-returns-2 c = 
+returns-2 c =
     let a = c .before .before .before .args in
     let n = getD (a .t2) (a .pile) 0 in
     let s = c .before .pile-start .result in

@@ -52,14 +52,14 @@ loop-less : tie.Need-loop-less Inv-loop μ-loop
 loop-less c = search needs
 
 loop-again : tie.Need-loop-again Inv-loop μ-loop
-loop-again c = 
+loop-again c =
     let b = c .before .before in
     let e = less-one (count-of (c .before)) in
     (omega arith, rw (e, b .loop .inv .1) (sym (sum-more (b .loop .i) _)), omega (arith, e, fits (c .before), b .loop .inv .2))
 
 returns : tie.Need-returns Inv-loop μ-loop
 unfolding downCards
-returns c = 
+returns c =
     let e : c .before .loop .i ≡ 7 = omega arith in
     rw e at (c .before .loop .inv .1)
 

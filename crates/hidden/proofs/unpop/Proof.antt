@@ -34,7 +34,7 @@ array-write-after c = search needs
 
 returns : tie.Need-returns
 unfolding oneMore coveredIn
-returns c = 
+returns c =
     let n = getD (c .before .args .t2) (c .before .args .pile) 0 in
     (refl, sym (ap (λ (b : Bool). cond b (Card (record { 0 = placed (c .before .args .deal .now) (c .before .args .pile) (n - 1) })) Emptied) (le-ltb 0 n (omega (arith, c .if1 .taken)))))
 
@@ -58,7 +58,7 @@ element-copy-out-t11 c = omega (arith, place c)
 
 returns-2 : tie.Need-returns-2
 unfolding oneMore coveredIn
-returns-2 c = 
+returns-2 c =
     let a = c .before .before .before .args in
     let n = getD (a .t2) (a .pile) 0 in
     let s = c .before .pile-start .result in
