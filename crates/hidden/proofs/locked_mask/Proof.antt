@@ -1,21 +1,15 @@
 -- `hidden::locked_mask` meets its contract.
 -- Assumes nothing.
 use borrow.Author.Needs.{needs}
-use mathlib.Core.Bool.{Bool, true, false, _&&_}
-use mathlib.Core.Path.{_≡_, refl, sym, ap, _∙_}
-use Prim.Native.Nat.{ℕ, _+_, _-_, _*_, _≤_, _<_}
+use mathlib.Core.Path.{_≡_, refl}
+use Prim.Native.Nat.{ℕ, _+_, _-_, _≤_}
 use native.Mathlib.Omega.{arith}
-use lib.Dec.{eqb, ltb, leb}
 use lib.ListN.{getD}
-use Rattle.rules.specs.Bits.{maskOf, anyOf, allOf}
-use Rattle.rules.specs.Hidden.{placed, headOf, bareOf, headIn, aloneIn, buriedIn, lockedIn, headPile, barePile, allUp, sumOf, downCards}
-use Rattle.hidden.proofs.Collected.{picked, picked-step, fronts, fronts-step, some-le, less-one, last-place, in-deal}
+use Rattle.rules.specs.Bits.{maskOf, anyOf}
+use Rattle.rules.specs.Hidden.{lockedIn}
+use Rattle.hidden.proofs.Collected.{fronts, fronts-step, in-deal}
 use Rattle.hidden.proofs.locked_mask.Statement.{statement}
 use Rattle.hidden.proofs.locked_mask.Tie as tie
-use Rattle.hidden.proofs.locked_mask.Reads as reads
-use Rattle.hidden.proofs.locked_mask.Lts as lts
-use Rattle.hidden.proofs.cards_from.Reads as cards-from-reads
-use Rattle.card.proofs.pile_start.Reads as pile-start-reads
 
 abbrev Inv-loop : tie.InvT-loop
 Inv-loop deal counts mask₀ i₀ mask i = (i ≤ 7) × (mask ≡ fronts deal (λ j. getD counts j 0) i)

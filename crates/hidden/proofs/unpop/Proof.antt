@@ -1,10 +1,10 @@
 -- `hidden::unpop` meets its contract.
 -- Assumes nothing.
-use mathlib.Core.Bool.{Bool, true, false, cond}
+use mathlib.Core.Bool.{Bool, cond}
 use mathlib.Core.Path.{_≡_, refl, sym, ap, _∙_}
 use Prim.Native.Nat.{ℕ, _+_, _-_, _≤_, _<_}
 use native.Mathlib.Omega.{arith}
-use lib.ListN.{getD, set}
+use lib.ListN.{getD}
 use borrow.Author.Tests.{lt-ltb, le-ltb}
 use Rattle.rules.specs.declared.TurnedUp.the-variants.{Emptied, Card}
 use Rattle.rules.specs.Places.{pileStart}
@@ -13,9 +13,6 @@ use Rattle.hidden.proofs.Collected.{in-deal}
 use borrow.Author.Needs.{needs}
 use Rattle.hidden.proofs.unpop.Statement.{statement}
 use Rattle.hidden.proofs.unpop.Tie as tie
-use Rattle.hidden.proofs.unpop.Reads as reads
-use Rattle.hidden.proofs.unpop.Lts as lts
-use Rattle.card.proofs.pile_start.Reads as pile-start-reads
 
 -- the pile's locked places lie in the deal
 place : (c : tie.After-pile-start) → c .pile-start .result + getD (c .before .before .args .t2) (c .before .before .args .pile) 0 ≤ 52

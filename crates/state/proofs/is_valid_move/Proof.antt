@@ -9,7 +9,8 @@ use Rattle.bits.specs.Bit.{bit, num}
 use Rattle.bits.proofs.Laws.{has-shr}
 use Rattle.bits.proofs.Tables.{either}
 use Rattle.rules.specs.declared.Masks.{Masks}
-use Rattle.state.proofs.ByKind.{ofKind, legal-bit}
+use Rattle.rules.specs.Moves.{ofKind}
+use Rattle.rules.proofs.MoveMasks.{bit-legal}
 use Rattle.state.proofs.is_valid_move.Statement.{statement}
 use Rattle.state.proofs.is_valid_move.Tie as tie
 
@@ -29,8 +30,8 @@ returns c =
     let card = c .before .before .args .card in
     ap (λ (x : ℕ). eqb x 1) (has-shr (c .of-kind .result) card)
     ∙ either (λ (b : Bool). eqb (num b) 1 ≡ b) refl refl (bit (c .of-kind .result) card)
-    ∙ ap (λ (m : ℕ). bit m card) (c .of-kind .ensures ∙ ap (ofKind kind) (c .before .masks .ensures))
-    ∙ legal-bit p kind card (c .before .before .pre .1)
+    ∙ ap (λ (m : ℕ). bit m card) (c .of-kind .ensures ∙ ap (λ (m : Masks). ofKind m kind) (c .before .masks .ensures))
+    ∙ bit-legal p kind card (c .before .before .pre .1) (c .before .before .pre .2)
 
 pub is-valid-move-spec : {M : Type 1} → statement M
 is-valid-move-spec = tie.close (tie.spec masks-requires of-kind-requires shr-result returns)
