@@ -2,14 +2,13 @@
 -- there are heads and free kings at most, and each gives room to two cards; kings have room where a column is left. That is 16 cards. A move by
 -- PileStack or DeckStack takes the next card of one of four suits.
 -- Assumes nothing.
-use mathlib.Core.Bool.{Bool, true, false, not, _&&_, _||_, cond}
-use mathlib.Core.Path.{_≡_, refl, sym, ap, ap₂, _∙_}
-use mathlib.Core.List.{List}
+use mathlib.Core.Bool.{Bool, true, false, not, _&&_, _||_}
+use mathlib.Core.Path.{_≡_, refl, sym, ap, _∙_}
 use Prim.Native.Nat.{ℕ, zero, suc, _+_, _-_, _*_, _/_, _≤_, _<_, zero-le, suc-le-suc}
 use native.Mathlib.Omega.{arith}
 use lib.Dec.{T, eqb, ltb, lit≤}
 use lib.ListN.{length, getD, length-append}
-use borrow.Author.Tests.{eqb-true, ltb-true, ltb-false, le-ltb}
+use borrow.Author.Tests.{eqb-true, ltb-true, le-ltb}
 use Rattle.bits.proofs.Tables.{T-true, true-T}
 use Rattle.bits.proofs.Laws.{bit-mask}
 use Rattle.bits.proofs.Counts.{list-length}
@@ -17,8 +16,8 @@ use Rattle.rules.specs.declared.Position.{Position}
 use Rattle.rules.specs.declared.Masks.{Masks}
 use Rattle.rules.specs.Bits.{num, bit, maskOf, countOf, anyOf, Within}
 use Rattle.rules.specs.Cards.{rank, suit, flipped, pair, higher, isKing}
-use Rattle.rules.specs.Places.{isHead, isBase, isVisible, isFree, isBuried, inDeck, onFoundation, visibleIn, freeIn, headsAndKings}
-use Rattle.rules.specs.Proper.{proper, Shaped}
+use Rattle.rules.specs.Places.{isHead, isBase, isVisible, isFree, inDeck, onFoundation, visibleIn, freeIn, headsAndKings}
+use Rattle.rules.specs.Proper.{proper}
 use Rattle.rules.specs.Dealing.{available}
 use Rattle.rules.specs.Legal.{isOpen, hasRoom, nextOn, isNext, isTop, pileStackLegal, deckStackLegal, deckPileLegal, stackPileLegal, revealLegal, unpruned, listed, listing}
 use Rattle.rules.specs.Pruned.{pruned}
@@ -27,7 +26,6 @@ use Rattle.rules.specs.Hidden.{sumOf}
 use Rattle.rules.specs.Answers.{masksFor}
 use Rattle.rules.proofs.Searches.{and-left, and-right, num-le, num-mono}
 use Rattle.rules.proofs.ProperLaw.{Parts, parts, no-card}
-use Rattle.rules.proofs.ProperMade.{numbers-right}
 use Rattle.rules.proofs.Facts.{Facts, facts, headCount, sets, kings}
 use Rattle.rules.proofs.HeadsLaw.{headIs, heads-count}
 use Rattle.rules.proofs.PrunedLaw.{pruned-within}

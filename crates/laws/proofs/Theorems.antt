@@ -1,14 +1,15 @@
 -- Every demand of document 01 besides the contracts, as one line each: the theorem's name and the statement that it proves. The statements stand in
 -- specs/ (Demands, Secrecy, Outcomes), under the document's sentences. The six main ones come first. Nothing is assumed.
 use Rattle.rules.specs.Dealing.{DealsRight}
-use Rattle.laws.specs.Secrecy.{KeepsSecrets}
+use Rattle.rules.specs.Worked.{W}
+use Rattle.laws.specs.Secrecy.{dealtFresh, KeepsSecrets}
 use Rattle.laws.specs.Outcomes.{OneOutcome}
 use Rattle.laws.specs.Demands.{MovesKeepProper, UndoAfterMove, RefusalExact, SaveResumeInverse, PrunedWithin, FreshProper, ResumedProper, CodeOfOne, UndoableSound, UndoableComplete, UndoableUnshaped, EarlierUnique, EntriesFit, ListedWithin, ListsLegal, ListsFew, ShownOnce, BytesShowOnce, PilesArranged}
 use Rattle.rules.proofs.DealsLaw.{deals-right as deals}
 use Rattle.rules.proofs.PrunedLaw.{pruned-within as within}
 use Rattle.laws.proofs.MovesProper.{moves-keep-proper as kept-proper}
 use Rattle.laws.proofs.UndoMove.{undo-after-move as undone}
-use Rattle.laws.proofs.UndoLaw.{undoable-sound as sound}
+use Rattle.laws.proofs.UndoSound.{undoable-sound as sound}
 use Rattle.laws.proofs.UndoExact.{refusal-exact as exact, undoable-complete as complete, earlier-unique as unique}
 use Rattle.laws.proofs.ShapeNeeded.{shape-needed as needed}
 use Rattle.laws.proofs.EntryFits.{entries-fit as fit}
@@ -21,6 +22,7 @@ use Rattle.laws.proofs.Few.{lists-few as few}
 use Rattle.laws.proofs.ShownOnce.{shows-once as shown}
 use Rattle.laws.proofs.PileBytes.{bytes-show-once as bytes}
 use Rattle.laws.proofs.Arranged.{piles-arranged as arranged}
+use Rattle.laws.proofs.NotVacuous.{W′, W″, Meets, Differs, calls, later, code, reveal, meets-fresh, meets-resumed, shows}
 use Rattle.laws.proofs.Secrets.{keeps-secrets as secrets}
 use Rattle.laws.proofs.OneOutcome.{one-outcome as outcome}
 
@@ -43,6 +45,17 @@ pruned-within-unpruned = within
 
 pub nothing-hidden-shows : KeepsSecrets
 nothing-hidden-shows = secrets
+
+-- ---- and the last speaks of something: two different deals and two runs that meet its hypotheses, one fresh, one resumed; a card turned up shows
+
+pub fresh-runs : Meets W W′ 3 dealtFresh calls
+fresh-runs = meets-fresh
+
+pub resumed-runs : Meets W W′ 3 code later
+resumed-runs = meets-resumed
+
+pub turned-up-shows : Differs W W″ reveal
+turned-up-shows = shows
 
 -- ---- every contract allows one outcome
 

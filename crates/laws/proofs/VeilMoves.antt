@@ -4,15 +4,14 @@ use mathlib.Core.Bool.{Bool, true, false, not, _&&_, _||_, cond}
 use mathlib.Core.Path.{_≡_, refl, sym, ap, ap₂, _∙_}
 use Prim.Native.Nat.{ℕ, zero, suc, _+_, _-_, _*_, _/_, _^_, _<_}
 use native.Mathlib.Omega.{arith}
-use lib.Dec.{eqb, ltb, leb}
-use borrow.Author.Tests.{eqb-true, leb-true, lt-ltb}
+use lib.Dec.{eqb, ltb}
+use borrow.Author.Tests.{eqb-true, lt-ltb}
 use Rattle.rules.specs.declared.Position.{Position}
 use Rattle.rules.specs.Cards.{pair, higher, isKing}
 use Rattle.rules.specs.Places.{stockCard, inDeck, count, height, hasHead, head, isHead, isBase, veil, alone}
 use Rattle.rules.specs.Legal.{isOpen, hasRoom, pileStackLegal, deckStackLegal, deckPileLegal, stackPileLegal, revealLegal, unpruned, legal}
-use Rattle.rules.specs.History.{isKindAndCard}
 use Rattle.rules.specs.Code.{code, heightField, pileField, deckField, storedOffset}
-use Rattle.rules.proofs.Searches.{and-right, any-ext, mask-ext, and-under}
+use Rattle.rules.proofs.Searches.{any-ext, mask-ext, and-under}
 use Rattle.rules.proofs.ProperLaw.{Fits, Sound, count-fits}
 use Rattle.rules.proofs.HeadPlaces.{base-is}
 use Rattle.laws.proofs.VeilPlaces.{count-same, visible-same, next-same, top-same, available-same, inDeck-same, head-same, isHead-same, stock-same, visibleIn-same, freeIn-same, kings-same}

@@ -1,6 +1,6 @@
 -- What document 01 asks to be proved besides the contracts, each as a named type. Demand 3 is `KeepsSecrets` of Secrecy, the contracts' firmness
 -- `OneOutcome` of Outcomes. proofs/Theorems has them all, with their proofs.
-use mathlib.Core.Bool.{Bool, true, false}
+use mathlib.Core.Bool.{Bool}
 use mathlib.Core.Logic.{_↔_}
 use mathlib.Core.Path.{_≡_}
 use mathlib.Core.List.{List}

@@ -43,75 +43,34 @@ pub data Input : Type 0 where
   undo : (p : Position) (history : List ℕ) (n : ℕ) → Input
   dealOnce : (c : Cursor) → Input
 
--- the type of a call's answer: the refusal number is a part of it. The listing's is the front of the buffer that it hands back
-abbrev pub Answer : Input → Type 0
-Answer (deal cards step) = Started
-Answer (resume cards step code) = Started
-Answer (save p) = Saved
-Answer (masks asked p) = Masked
-Answer (listCount asked p room) = Listed
-Answer (list asked p buffer) = List ℕ
-Answer (test p kind card) = Told
-Answer (faceUp p buffer) = Piled
-Answer (heights p) = Heights
-Answer (deck p) = DeckView
-Answer (find p card) = Located
-Answer (offset p n) = Offset
-Answer (win p) = Told
-Answer (sureWin p) = Told
-Answer (ladder p q) = Compared
-Answer (move p history n kind card) = Moved
-Answer (undo p history n) = Undone
-Answer (dealOnce c) = Turned
-
--- what the contract says of the answer
-abbrev pub answer : (i : Input) → Answer i
-answer (deal cards step) = dealAnswer cards step
-answer (resume cards step code) = resumeAnswer cards step code
-answer (save p) = saveAnswer p
-answer (masks asked p) = masksAnswer asked p
-answer (listCount asked p room) = listingAnswer asked p room
-answer (list asked p buffer) = listingFront asked p buffer
-answer (test p kind card) = testAnswer p kind card
-answer (faceUp p buffer) = pilesAnswer p (length buffer)
-answer (heights p) = heightsAnswer p
-answer (deck p) = deckAnswer p
-answer (find p card) = findAnswer p card
-answer (offset p n) = offsetAnswer p n
-answer (win p) = winAnswer p
-answer (sureWin p) = sureWinAnswer p
-answer (ladder p q) = ladderAnswer p q
-answer (move p history n kind card) = moveAnswer p history n kind card
-answer (undo p history n) = undoAnswer p history n
-answer (dealOnce c) = dealOnceAnswer c
-
--- what it says of the lent slice at exit; [] where none is lent. ("Undo .. leaves the slice")
-abbrev pub lent : Input → List ℕ
-lent (deal cards step) = []
-lent (resume cards step code) = []
-lent (save p) = []
-lent (masks asked p) = []
-lent (listCount asked p room) = []
-lent (list asked p buffer) = listingInto asked p buffer
-lent (test p kind card) = []
-lent (faceUp p buffer) = pilesBuffer p buffer
-lent (heights p) = []
-lent (deck p) = []
-lent (find p card) = []
-lent (offset p n) = []
-lent (win p) = []
-lent (sureWin p) = []
-lent (ladder p q) = []
-lent (move p history n kind card) = moveHistory p history n kind card
-lent (undo p history n) = history
-lent (dealOnce c) = []
+-- the contract of each: the answer's type, what the answer is (the refusal number is a part of it), and what the lent slice holds at exit, [] where
+-- none is lent. The listing's answer is the front of the buffer that it hands back; "undo .. leaves the slice"
+abbrev pub contract : Input → (A : Type 0) × A × List ℕ
+contract (deal cards step) = (Started, dealAnswer cards step, [])
+contract (resume cards step code) = (Started, resumeAnswer cards step code, [])
+contract (save p) = (Saved, saveAnswer p, [])
+contract (masks asked p) = (Masked, masksAnswer asked p, [])
+contract (listCount asked p room) = (Listed, listingAnswer asked p room, [])
+contract (list asked p buffer) = (List ℕ, listingFront asked p buffer, listingInto asked p buffer)
+contract (test p kind card) = (Told, testAnswer p kind card, [])
+contract (faceUp p buffer) = (Piled, pilesAnswer p (length buffer), pilesBuffer p buffer)
+contract (heights p) = (Heights, heightsAnswer p, [])
+contract (deck p) = (DeckView, deckAnswer p, [])
+contract (find p card) = (Located, findAnswer p card, [])
+contract (offset p n) = (Offset, offsetAnswer p n, [])
+contract (win p) = (Told, winAnswer p, [])
+contract (sureWin p) = (Told, sureWinAnswer p, [])
+contract (ladder p q) = (Compared, ladderAnswer p q, [])
+contract (move p history n kind card) = (Moved, moveAnswer p history n kind card, moveHistory p history n kind card)
+contract (undo p history n) = (Undone, undoAnswer p history n, history)
+contract (dealOnce c) = (Turned, dealOnceAnswer c, [])
 
 -- an outcome of a call, and that its contract allows it
 abbrev pub Outcome : Input → Type 0
-Outcome i = Answer i × List ℕ
+Outcome i = contract i .0 × List ℕ
 
 abbrev pub Allowed : (i : Input) → Outcome i → Type 0
-Allowed i o = (o .0 ≡ answer i) × (o .1 ≡ lent i)
+Allowed i o = (o .0 ≡ contract i .1) × (o .1 ≡ contract i .2)
 
 abbrev pub OneOutcome : Type 0
 OneOutcome = (i : Input) (x y : Outcome i) → Allowed i x → Allowed i y → x ≡ y

@@ -12,15 +12,14 @@ use borrow.Author.Tests.{eqb-true, eq-eqb, ltb-true, lt-ltb, leb-true, le-leb}
 use Rattle.rules.specs.declared.Position.{Position}
 use Rattle.rules.specs.declared.TurnedUp.{TurnedUp}
 use Rattle.rules.specs.declared.TurnedUp.the-variants.{Nothing, Emptied, Card}
-use Rattle.rules.specs.Bits.{anyOf, allOf, firstOf}
-use Rattle.rules.specs.Places.{pileStart, cardAt, pileCard, count, hasHead, head, isHead, isBuried, isLocked, pileOf, alone}
+use Rattle.rules.specs.Bits.{allOf, firstOf}
+use Rattle.rules.specs.Places.{cardAt, pileCard, count, hasHead, head, isHead, isBuried, isLocked, pileOf, alone}
 use Rattle.rules.specs.Code.{countsField, pileField, fieldCount, codeCount, codePiles, table}
 use Rattle.rules.specs.Play.{withCounts, shown, hidden, turned, turnedBack, under}
 use Rattle.rules.specs.Hidden.{placed, headOf, bareOf, headIn, buriedIn, lockedIn, aloneIn, headPile, barePile, oneLess, oneMore, underIn, coveredIn, allUp}
 use Rattle.rules.proofs.Searches.{and-left, and-right, and-both, any-yes, yes-any, any-ext, first-yes}
 use Rattle.rules.proofs.Steps.{first-at, first-none}
 use Rattle.rules.proofs.Placed.{pile-of}
-use Rattle.rules.proofs.PilePlaces.{pile-place, one-place}
 use Rattle.bits.proofs.Tables.{same-test}
 use Rattle.rules.proofs.Facts.{Facts}
 
