@@ -141,3 +141,16 @@ module _ (p : Position) (e : ℕ) where
   pub some-is : undoable p e ≡ true → record { possible = true; position = back } ≡ undone p e
   unfolding undone stepBack
   some-is h = rw h refl
+
+  -- the answer's two parts
+  pub possible-is : undone p e .possible ≡ undoable p e
+  unfolding undone
+  possible-is = go (undoable p e)
+    where
+      go : (b : Bool) → cond {A = Back} b (record { possible = true; position = stepBack p e }) (record { possible = false; position = p }) .possible ≡ b
+      go true = refl
+      go false = refl
+
+  pub position-is : undoable p e ≡ true → undone p e .position ≡ stepBack p e
+  unfolding undone
+  position-is h = rw h refl
