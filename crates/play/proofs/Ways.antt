@@ -58,9 +58,9 @@ module _ (p r : Position) (c : ℕ) (d : r .deal ≡ p .deal) (n : r .counts ≡
       let low : count p i ≤ i = omega (arith, f .numbers .counts i l) in
       let at : count q i - 1 ≡ count p i = omega arith in
       let card : getD (p .deal) (pileStart i + count p i) 0 ≡ c =
-          ap₂ (λ (l : List ℕ) (k : ℕ). getD l (pileStart i + k) 0) (sym deal) (sym at) ∙ subst (λ (j : ℕ). pileCard q j (count q j - 1) ≡ c) pile (w .is) in
+      ap₂ (λ (l : List ℕ) (k : ℕ). getD l (pileStart i + k) 0) (sym deal) (sym at) ∙ subst (λ (j : ℕ). pileCard q j (count q j - 1) ≡ c) pile (w .is) in
       let first : firstOf 7 (λ j. bareOf (p .deal) (p .counts) c j) ≤ i =
-          first-least 7 (λ j. bareOf (p .deal) (p .counts) c j) i l (and-both (leb (getD (p .counts) i 0) i) (eqb (getD (p .deal) (pileStart i + getD (p .counts) i 0) 0) c) (le-leb (getD (p .counts) i 0) i low) (eq-eqb (getD (p .deal) (pileStart i + getD (p .counts) i 0) 0) c card)) in
+      first-least 7 (λ j. bareOf (p .deal) (p .counts) c j) i l (and-both (leb (getD (p .counts) i 0) i) (eqb (getD (p .deal) (pileStart i + getD (p .counts) i 0) 0) c) (le-leb (getD (p .counts) i 0) i low) (eq-eqb (getD (p .deal) (pileStart i + getD (p .counts) i 0) 0) c card)) in
       lt-ltb (firstOf 7 (λ j. bareOf (p .deal) (p .counts) c j)) 7 (omega arith)
 
 -- ---- each kind
