@@ -1,6 +1,6 @@
 -- A deal on a cursor, field by field. Assumes nothing.
 use mathlib.Core.Bool.{Bool, true, false, not, _&&_, _||_}
-use mathlib.Core.Path.{_≡_, refl, sym, ap, _∙_}
+use mathlib.Core.Path.{_≡_, refl, ap}
 use Prim.Native.Nat.{ℕ, zero, suc, _≤_}
 use native.Mathlib.Omega.{arith}
 use lib.Dec.{ltb, leb}
@@ -25,12 +25,8 @@ answer-is c = go (cursorRefusal c)
     go zero = refl
     go (suc r) = refl
 
-pub offset-is : (c : Cursor) → dealOnceAnswer c .cursor .offset ≡ turnedTo c
-offset-is c = ap (λ (t : Turned). t .cursor .offset) (answer-is c)
-
--- the cursor of the answer has another offset at most
-pub cursor-is : (c : Cursor) → cursorOf (c .len) (c .step) (dealOnceAnswer c .cursor .offset) ≡ dealOnceAnswer c .cursor
-cursor-is c = ap (cursorOf (c .len) (c .step)) (offset-is c) ∙ sym (ap (λ (t : Turned). t .cursor) (answer-is c))
+pub refusal-is : (c : Cursor) → dealOnceAnswer c .refusal ≡ cursorRefusal c
+refusal-is c = ap (λ (t : Turned). t .refusal) (answer-is c)
 
 pub refused-stays : (c : Cursor) → (cursorRefusal c ≡ 0 → ⊥) → turnedTo c ≡ c .offset
 unfolding turnedTo

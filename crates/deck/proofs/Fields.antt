@@ -1,14 +1,13 @@
 -- The field of places, a place at a time: written, and read into a deck.
 -- Assumes nothing.
 use mathlib.Core.Bool.{Bool, true, false}
-use mathlib.Core.Path.{_≡_, refl, sym, ap, ap₂, _∙_, subst}
-use mathlib.Core.List.{List, [], _∷_, map}
-use Prim.Native.Nat.{ℕ, zero, suc, _+_, _-_, _*_, _/_, _%_, _^_, _≤_, _<_, zero-le, suc-le-suc}
-use native.Mathlib.Nat.{mod-eq-of-lt, le-of-suc-le-suc, not-suc-le-zero, zero-add, lt-of-le-of-lt}
+use mathlib.Core.Path.{_≡_, refl, sym, ap, _∙_}
+use mathlib.Core.List.{List, _∷_, map}
+use Prim.Native.Nat.{ℕ, zero, suc, _+_, _-_, _*_, _/_, _%_, _^_, _≤_, _<_}
+use native.Mathlib.Nat.{mod-eq-of-lt, le-of-suc-le-suc, not-suc-le-zero, zero-add}
 use native.Mathlib.Numerals.{add-one, one-add}
 use native.Mathlib.Omega.{arith}
 use lib.Bits.{bitAnd, bitOr, or-shifted-r}
-use lib.Dec.{lit<, lit≤}
 use lib.ListN.{length, getD, length-map}
 use lib.Pow.{pow-mono}
 use mir.Val.{boolByte}
@@ -18,7 +17,7 @@ use Rattle.bits.proofs.Counts.{list-length, list-ext, count-ext}
 use Rattle.rules.specs.Bits.{num, maskOf, countOf, listOf, consIf}
 use Rattle.rules.specs.Code.{deckOf, codeHas, codeLeft}
 use Rattle.rules.specs.Play.{slots}
-use Rattle.rules.proofs.Searches.{mask-snoc, count-snoc, count-le}
+use Rattle.rules.proofs.Searches.{mask-snoc, count-snoc}
 
 -- ---- written
 

@@ -1,14 +1,13 @@
 -- The deck's 24 cards gone through with the cards left beside them: at each place, is its card the next of those left?
 -- Assumes nothing.
 use mathlib.Core.Bool.{Bool, true, false, _&&_, cond, true≢false}
-use mathlib.Core.Logic.{⊎-elim}
 use mathlib.Core.Path.{_≡_, refl, sym, ap, ap₂, _∙_, subst}
 use mathlib.Core.List.{List, [], _∷_}
-use Prim.Native.Nat.{ℕ, zero, suc, _+_, _-_, _≤_, _<_, zero-le, suc-le-suc}
+use Prim.Native.Nat.{ℕ, _+_, _-_, _≤_, _<_, zero-le, suc-le-suc}
 use native.Mathlib.Numerals.{add-one}
 use native.Mathlib.Omega.{arith}
 use lib.Dec.{T, eqb, ltb}
-use lib.ListN.{length, getD, take, drop, length-take, length-drop}
+use lib.ListN.{length, getD, take, drop, length-drop}
 use lib.Seq.{length-take-le, drop-cons, getD-take, getD-drop}
 use mir.Val.{boolByte}
 use borrow.Author.Tests.{eqb-true, eq-eqb, ne-eqb, ltb-true, ltb-false, lt-ltb, le-ltb}
@@ -18,10 +17,10 @@ use Rattle.rules.specs.Bits.{num, anyOf, countOf, firstOf}
 use Rattle.rules.specs.Places.{cardAt, stockCard, deckCard, inDeck}
 use Rattle.rules.specs.Proper.{proper, deckRight, strike, inOrder}
 use Rattle.rules.specs.Answers.{stockPlace, findPlace}
-use Rattle.rules.proofs.Searches.{and-left, and-right, and-both, any-yes, yes-any, first-yes, first-least, first-le, count-snoc}
+use Rattle.rules.proofs.Searches.{and-left, and-right, and-both, any-yes, yes-any, first-yes, first-least, count-snoc}
 use Rattle.rules.proofs.VeilLaw.{is-false}
 use Rattle.rules.proofs.ProperLaw.{parts}
-use Rattle.rules.proofs.Facts.{Facts, facts, in-order}
+use Rattle.rules.proofs.Facts.{facts, in-order}
 
 -- the first where the test passes; none passes it
 first-at : (n : ℕ) (f : ℕ → Bool) (k : ℕ) → k < n → f k ≡ true → ((j : ℕ) → j < k → f j ≡ true → ⊥) → firstOf n f ≡ k
@@ -127,13 +126,15 @@ module _ (deal deck : List ℕ) (left : ℕ) (r : Right deal deck left) where
       let t : eqb (getD deck at 0) (getD deal (28 + k) 0) ≡ true = and-right (ltb at left) (eqb (getD deck at 0) (getD deal (28 + k) 0)) h in
       let e : getD deck at 0 ≡ getD deal (28 + k) 0 = eqb-true (getD deck at 0) (getD deal (28 + k) 0) t in
       let y : has deal deck left k ≡ true = yes-any left (λ j. eqb (getD deck j 0) (getD deal (28 + k) 0)) at i t in
-      let d : drop at cards ≡ getD deal (28 + k) 0 ∷ drop (at + 1) cards = drop-cons cards at 0 (omega (arith, cards-length)) ∙ ap₂ (λ (x n : ℕ). x ∷ drop n cards) (getD-take left deck at 0 i ∙ e) (sym (add-one at)) in
-      (y, record {
-      passed = rw (add-one k, count-snoc k (has deal deck left)) (ap₂ (λ (n : ℕ) (b : Bool). n + num b) (w .passed) (sym y));
-      low = omega arith;
-      order = ap (λ (xs : List ℕ). inOrder xs (drop (k + 1) stock)) (sym (ap (strike (getD deal (28 + k) 0)) d ∙ strike-hit (getD deal (28 + k) 0) (drop (at + 1) cards))) ∙ order-cons at k l (w .order);
-      past = λ j i a b c z. past j i a b c z (ltb j at) refl e;
-      })
+      let d : drop at cards ≡ getD deal (28 + k) 0 ∷ drop (at + 1) cards = drop-cons cards at 0 (omega (arith, cards-length)) ∙ ap₂ (λ (x n : ℕ). x ∷ drop n cards) (getD-take left deck at 0 i ∙ e) (sym (add-one at)) in (
+        y,
+        record {
+          passed = rw (add-one k, count-snoc k (has deal deck left)) (ap₂ (λ (n : ℕ) (b : Bool). n + num b) (w .passed) (sym y));
+          low = omega arith;
+          order = ap (λ (xs : List ℕ). inOrder xs (drop (k + 1) stock)) (sym (ap (strike (getD deal (28 + k) 0)) d ∙ strike-hit (getD deal (28 + k) 0) (drop (at + 1) cards))) ∙ order-cons at k l (w .order);
+          past = λ j i a b c z. past j i a b c z (ltb j at) refl e;
+        },
+      )
     where
       past : (j i : ℕ) → j < at + 1 → k + 1 ≤ i → i < 24 → getD deck j 0 ≡ getD deal (28 + i) 0 → (b : Bool) → ltb j at ≡ b → getD deck at 0 ≡ getD deal (28 + k) 0 → ⊥
       past j i a b c z true m e = w .past j i (ltb-true j at m) (omega arith) c z
@@ -141,13 +142,15 @@ module _ (deal deck : List ℕ) (left : ℕ) (r : Right deal deck left) where
           let s : j ≡ at = omega (arith, ltb-false j at m) in
           let n : k ≡ i = r .apart k i l c (sym e ∙ ap (λ (x : ℕ). getD deck x 0) (sym s) ∙ z) in
           omega arith
-  walk-step k at l w false h =
-      (no, record {
+  walk-step k at l w false h = (
+    no,
+    record {
       passed = rw (add-one k, count-snoc k (has deal deck left)) (ap₂ (λ (n : ℕ) (b : Bool). n + num b) (w .passed) (sym no));
       low = omega (arith, w .low);
       order = subst (λ (n : ℕ). inOrder (drop n cards) (drop (k + 1) stock) ≡ true) none ahead;
       past = λ j i a b c z. w .past j i (omega arith) (omega arith) c z;
-      })
+    },
+  )
     where
       none : at ≡ at + 0
       none = omega arith

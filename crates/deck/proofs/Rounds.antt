@@ -1,10 +1,10 @@
 -- n deals in a row without n turns: those to the end, one to the front, and what whole rounds leave.
 -- Assumes nothing.
-use mathlib.Core.Path.{_≡_, refl, sym, ap, _∙_, subst}
+use mathlib.Core.Path.{_≡_, sym, ap, _∙_, subst}
 use Prim.Native.Nat.{ℕ, zero, suc, _+_, _-_, _*_, _/_, _%_, _≤_, _<_, min, zero-le}
 use native.Mathlib.Nat.{suc-mul, zero-mul, mul-comm, div-add-mod', le-div-iff-mul-le, mod-lt}
 use native.Mathlib.Omega.{arith}
-use Rattle.rules.specs.Dealing.{dealt, deals}
+use Rattle.rules.specs.Dealing.{deals}
 use Rattle.rules.proofs.DealsLaw.{dealt-end, dealt-on, deals-add}
 
 -- how many steps go into x, the last one begun counted
@@ -17,6 +17,13 @@ module _ (len step : ℕ) (sp : 0 < step) where
   ceil-low n x h =
       let w : n * step ≤ x + step - 1 = le-div-iff-mul-le sp .0 h in
       omega (arith, mul-comm step n)
+
+  -- what whole rounds leave is no longer than a round
+  pub round-low : (w m : ℕ) → w ≡ ceil step len → step * (m % (w + 1)) < len + step
+  round-low w m e =
+      let r : ℕ = m % (w + 1) in
+      let low : r < w + 1 = mod-lt m (omega arith) in
+      ceil-low r len (subst (λ (x : ℕ). r ≤ x) e (omega arith))
 
   ceil-high : (x : ℕ) → x ≤ ceil step x * step
   ceil-high x = omega (arith, div-add-mod' (x + step - 1) step, mod-lt (x + step - 1) sp)

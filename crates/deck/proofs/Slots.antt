@@ -2,10 +2,10 @@
 -- Assumes nothing.
 use mathlib.Core.Path.{_≡_, refl, sym, ap, ap₂, _∙_}
 use mathlib.Core.List.{List, [], _∷_, _++_, append-assoc}
-use Prim.Native.Nat.{ℕ, zero, suc, _+_, _-_, _≤_, _<_}
+use Prim.Native.Nat.{ℕ, suc, _+_, _-_, _≤_, _<_}
 use native.Mathlib.Numerals.{add-one}
 use native.Mathlib.Omega.{arith}
-use lib.ListN.{length, getD, take, drop, set, replicate, length-append, length-take, length-drop, length-replicate, replicate-append-replicate, List·getD-append}
+use lib.ListN.{length, getD, take, drop, set, replicate, length-append, length-drop, length-replicate, replicate-append-replicate, List·getD-append}
 use lib.Seq.{length-take-le, take-all, take-suc, take-at, drop-at, set-at, split-at, getD-take, getD-drop, getD-append-add, take-take}
 use Rattle.rules.specs.Play.{slots, drawAt, pushAt}
 use Rattle.rules.proofs.SlotsLaw.{slots-front}

@@ -1,12 +1,30 @@
 // The public calls. Each judges its own input, requires nothing, and refuses by document 01's numbers, in its order.
 // A refused call hands back the position it was given and leaves lent memory as it was.
 ghost use mathlib.Core.Path.{_≡_};
-ghost use Rattle.rules.specs.Answers.{noMasks, masksAnswer, testAnswer, winAnswer, sureWinAnswer, heightsAnswer};
+ghost use lib.Dec.{T};
+ghost use lib.ListN.{length};
+ghost use denote.Ref.{ptr};
+ghost use Rattle.rules.specs.Play.{slots};
+ghost use Rattle.rules.specs.Proper.{proper};
+ghost use Rattle.rules.specs.Answers.{noMasks, masksFor, masksAnswer, testAnswer, listingAnswer, listingFront, listingInto, winAnswer, sureWinAnswer, heightsAnswer, deckAnswer, findAnswer, offsetAnswer, pilesAnswer, pilesBuffer};
+use rules::DeckView;
 use rules::Heights;
+use rules::Listed;
+use rules::Located;
 use rules::Masked;
 use rules::Masks;
+use rules::Offset;
+use rules::Piled;
 use rules::Position;
 use rules::Told;
+
+// The bytes that the face-up piles need.
+pub const PILE_BYTES: usize = 91;
+
+// The highest kind and the highest card.
+const LAST_KIND: u8 = moves::REVEAL;
+
+const LAST_CARD: u8 = card::N_CARDS - 1;
 
 // No masks, for a refused call.
 fn no_masks() -> Masks
@@ -21,7 +39,18 @@ fn no_masks() -> Masks
     }
 }
 
-// The masks of the moves: the legal ones, or, where pruning is asked, those that are worth trying.
+// The legal moves, or, where pruning is asked, those that are worth trying.
+fn hints(p: Position, pruned: bool) -> Masks
+    requires { ⌜ T (proper p) ⌝ }
+    ensures { λ r. ⌜ r ≡ masksFor pruned p ⌝ }
+{
+    if pruned {
+        return prune::pruned(p);
+    }
+    state::masks(p)
+}
+
+// The masks of the moves.
 pub fn masks(p: Position, pruned: bool) -> Masked
     ensures { λ r. ⌜ r ≡ masksAnswer pruned p ⌝ }
 {
@@ -32,17 +61,10 @@ pub fn masks(p: Position, pruned: bool) -> Masked
             masks: no_masks(),
         };
     }
-    if pruned {
-        return Masked {
-            refusal: 0,
-            position: p,
-            masks: prune::pruned(p),
-        };
-    }
     Masked {
         refusal: 0,
         position: p,
-        masks: state::masks(p),
+        masks: hints(p, pruned),
     }
 }
 
@@ -57,14 +79,14 @@ pub fn test(p: Position, kind: u8, card: u8) -> Told
             yes: false,
         };
     }
-    if kind > 4 {
+    if kind > LAST_KIND {
         return Told {
             refusal: rules::NO_MOVE,
             position: p,
             yes: false,
         };
     }
-    if card > 51 {
+    if card > LAST_CARD {
         return Told {
             refusal: rules::NO_MOVE,
             position: p,
@@ -75,6 +97,112 @@ pub fn test(p: Position, kind: u8, card: u8) -> Told
         refusal: 0,
         position: p,
         yes: state::is_valid_move(p, kind, card),
+    }
+}
+
+// Lists the moves into the front of out: the refusal and how many. Later slots stay.
+pub fn list_into(p: Position, pruned: bool, out: &mut [u16]) -> Listed
+    ensures { λ r. ⌜ (r ≡ listingAnswer pruned p (length (now (out .entry)))) × (now (out .exit) ≡ listingInto pruned p (now (out .entry))) ⌝ }
+{
+    if !proper::is_proper(p) {
+        return Listed {
+            refusal: rules::NOT_PROPER,
+            position: p,
+            count: 0,
+        };
+    }
+    let m = hints(p, pruned);
+    if out.len() < moves::len(m) as usize {
+        return Listed {
+            refusal: rules::TOO_SHORT,
+            position: p,
+            count: 0,
+        };
+    }
+    let n = moves::list_into(m, out);
+    Listed {
+        refusal: 0,
+        position: p,
+        count: n,
+    }
+}
+
+// Lists the moves, and hands the written front of out back: nothing where it is refused. `list_count` gives the refusal's number.
+pub fn list<'a>(p: Position, pruned: bool, out: &'a mut [u16]) -> &'a mut [u16]
+    ensures { λ r. ⌜ (now r ≡ listingFront pruned p (now (out .entry))) × (ptr r ≡ ptr (out .entry)) ⌝ }
+{
+    let n = list_into(p, pruned, out).count;
+    &mut out[..n]
+}
+
+// What `list` would answer with a buffer of so many slots. Writes nothing.
+pub fn list_count(p: Position, pruned: bool, room: usize) -> Listed
+    ensures { λ r. ⌜ r ≡ listingAnswer pruned p room ⌝ }
+{
+    if !proper::is_proper(p) {
+        return Listed {
+            refusal: rules::NOT_PROPER,
+            position: p,
+            count: 0,
+        };
+    }
+    let n = moves::len(hints(p, pruned)) as usize;
+    if room < n {
+        return Listed {
+            refusal: rules::TOO_SHORT,
+            position: p,
+            count: 0,
+        };
+    }
+    Listed {
+        refusal: 0,
+        position: p,
+        count: n,
+    }
+}
+
+// Whether every foundation is full.
+pub fn is_win(p: Position) -> Told
+    ensures { λ r. ⌜ r ≡ winAnswer p ⌝ }
+{
+    if !proper::is_proper(p) {
+        return Told {
+            refusal: rules::NOT_PROPER,
+            position: p,
+            yes: false,
+        };
+    }
+    let heights = p.heights;
+    Told {
+        refusal: 0,
+        position: p,
+        yes: stack::is_full(heights),
+    }
+}
+
+// Whether at most one card is in the deck and nothing is buried.
+pub fn is_sure_win(p: Position) -> Told
+    ensures { λ r. ⌜ r ≡ sureWinAnswer p ⌝ }
+{
+    if !proper::is_proper(p) {
+        return Told {
+            refusal: rules::NOT_PROPER,
+            position: p,
+            yes: false,
+        };
+    }
+    let counts = p.counts;
+    if p.left > 1 {
+        return Told {
+            refusal: 0,
+            position: p,
+            yes: false,
+        };
+    }
+    Told {
+        refusal: 0,
+        position: p,
+        yes: hidden::is_all_up(&counts),
     }
 }
 
@@ -94,5 +222,100 @@ pub fn heights(p: Position) -> Heights
         refusal: 0,
         position: p,
         heights: h,
+    }
+}
+
+// The deck cards left, and the offset.
+pub fn deck(p: Position) -> DeckView
+    ensures { λ r. ⌜ r ≡ deckAnswer p ⌝ }
+{
+    if !proper::is_proper(p) {
+        return DeckView {
+            refusal: rules::NOT_PROPER,
+            position: p,
+            cards: [0u8; 24],
+            left: 0,
+            offset: 0,
+        };
+    }
+    let cards = p.deck;
+    DeckView {
+        refusal: 0,
+        position: p,
+        cards: deck::cards(cards, p.left),
+        left: p.left,
+        offset: p.offset,
+    }
+}
+
+// Whether a card is in the deck, and where.
+pub fn find(p: Position, card: u8) -> Located
+    ensures { λ r. ⌜ r ≡ findAnswer p card ⌝ }
+{
+    if !proper::is_proper(p) {
+        return Located {
+            refusal: rules::NOT_PROPER,
+            position: p,
+            found: false,
+            place: 0,
+        };
+    }
+    if card > LAST_CARD {
+        return Located {
+            refusal: rules::NO_MOVE,
+            position: p,
+            found: false,
+            place: 0,
+        };
+    }
+    let f = deck::find_card(p, card);
+    Located {
+        refusal: 0,
+        position: p,
+        found: f.found,
+        place: f.place,
+    }
+}
+
+// The offset after n deals in a row.
+pub fn offset(p: Position, n: u8) -> Offset
+    ensures { λ r. ⌜ r ≡ offsetAnswer p n ⌝ }
+{
+    if !proper::is_proper(p) {
+        return Offset {
+            refusal: rules::NOT_PROPER,
+            position: p,
+            offset: 0,
+        };
+    }
+    Offset {
+        refusal: 0,
+        position: p,
+        offset: deck::offset(p.left, p.step, p.offset, n),
+    }
+}
+
+// Writes the face-up piles into 91 bytes, 13 for each, and gives their lengths. Later bytes stay.
+pub fn piles(p: Position, out: &mut [u8]) -> Piled
+    ensures { λ r. ⌜ (r ≡ pilesAnswer p (length (now (out .entry)))) × (now (out .exit) ≡ pilesBuffer p (now (out .entry))) ⌝ }
+{
+    if !proper::is_proper(p) {
+        return Piled {
+            refusal: rules::NOT_PROPER,
+            position: p,
+            lengths: [0u8; 7],
+        };
+    }
+    if out.len() < PILE_BYTES {
+        return Piled {
+            refusal: rules::TOO_SHORT,
+            position: p,
+            lengths: [0u8; 7],
+        };
+    }
+    Piled {
+        refusal: 0,
+        position: p,
+        lengths: piles::compute_visible_piles(p, out),
     }
 }

@@ -104,11 +104,11 @@ less-one x = go (ltb 0 x) refl
     go true e = refl
     go false e = omega (arith, ltb-false 0 x e)
 
-pub some-le : (x : ℕ) → boolByte (ltb 0 x) ≤ x
-some-le x = go (ltb 0 x) refl
+pub some-le : (k x : ℕ) → boolByte (ltb k x) ≤ x
+some-le k x = go (ltb k x) refl
   where
-    go : (b : Bool) → ltb 0 x ≡ b → boolByte b ≤ x
-    go true e = ltb-true 0 x e
+    go : (b : Bool) → ltb k x ≡ b → boolByte b ≤ x
+    go true e = let l : k < x = ltb-true k x e in omega arith
     go false e = omega arith
 
 -- the places of a pile's first x cards, x not above its size; where s is the pile's start

@@ -1,24 +1,25 @@
 -- What is said of a deal and its counts alone is said of the position: the masks, the card turned up, the piles found, the turns.
 -- Assumes nothing.
-use mathlib.Core.Bool.{Bool, true, false, _&&_, _||_, cond}
+use mathlib.Core.Bool.{Bool, true, false, _&&_, cond, true≢false}
 use mathlib.Core.Path.{_≡_, refl, sym, ap, ap₂, _∙_}
 use mathlib.Core.List.{List}
 use Prim.Native.Nat.{ℕ, _+_, _-_, _≤_, _<_}
 use native.Mathlib.Omega.{arith}
 use lib.Dec.{eqb, ltb, leb}
 use lib.ListN.{getD, set, length}
-use lib.Seq.{getD-set-same}
+use lib.Seq.{getD-set-same, set-set, set-getD}
 use borrow.Author.Tests.{eqb-true, eq-eqb, ltb-true, lt-ltb, leb-true, le-leb}
 use Rattle.rules.specs.declared.Position.{Position}
 use Rattle.rules.specs.declared.TurnedUp.{TurnedUp}
 use Rattle.rules.specs.declared.TurnedUp.the-variants.{Nothing, Emptied, Card}
-use Rattle.rules.specs.Bits.{anyOf, firstOf}
+use Rattle.rules.specs.Bits.{anyOf, allOf, firstOf}
 use Rattle.rules.specs.Places.{pileStart, cardAt, pileCard, count, hasHead, head, isHead, isBuried, isLocked, pileOf}
+use Rattle.rules.specs.Code.{countsField, pileField, fieldCount, codeCount, codePiles, table}
 use Rattle.rules.specs.Play.{withCounts, shown, hidden, turned, turnedBack, under}
-use Rattle.rules.specs.Hidden.{CountsFit, placed, headOf, bareOf, headIn, buriedIn, lockedIn, aloneIn, headPile, barePile, oneLess, oneMore, underIn, coveredIn}
-use Rattle.rules.proofs.Searches.{and-left, and-right, and-both, any-yes, yes-any, any-ext}
-use Rattle.rules.proofs.Steps.{first-at}
-use Rattle.rules.proofs.VeilLaw.{alone, pile-place, one-place}
+use Rattle.rules.specs.Hidden.{placed, headOf, bareOf, headIn, buriedIn, lockedIn, aloneIn, headPile, barePile, oneLess, oneMore, underIn, coveredIn, allUp}
+use Rattle.rules.proofs.Searches.{and-left, and-right, and-both, any-yes, yes-any, any-ext, first-yes}
+use Rattle.rules.proofs.Steps.{first-at, first-none}
+use Rattle.rules.proofs.VeilLaw.{alone, pile-place, one-place, same-test}
 use Rattle.rules.proofs.Facts.{Facts}
 
 -- ---- the sets
@@ -92,6 +93,31 @@ module _ (p : Position) (f : Facts p) where
       found c (λ j. leb (getD n j 0) j) (λ j. getD n j 0) (λ j s b. leb-true (getD n j 0) j b) i l
       (and-both (leb (getD n i 0) i) (eqb c c) (le-leb (getD n i 0) i m) (eq-eqb c c refl))
 
+  -- and a pile that the search finds is that one
+  pub bare-pile-found : (c : ℕ) → barePile (p .deal) (p .counts) c < 7 → barePile (p .deal) (p .counts) c ≡ pileOf p c
+  unfolding barePile
+  bare-pile-found c l =
+      let n = p .counts in
+      found c (λ j. leb (getD n j 0) j) (λ j. getD n j 0) (λ j s b. leb-true (getD n j 0) j b) (barePile (p .deal) n c) l (first-yes 7 (λ j. bareOf (p .deal) n c j) l)
+
+pub head-pile-none : (p : Position) (c : ℕ) → isHead p c ≡ false → headPile (p .deal) (p .counts) c ≡ 7
+unfolding headPile isHead hasHead head pileCard cardAt count
+head-pile-none p c h = first-none 7 _ (λ j l t. true≢false (sym (yes-any 7 (λ i. headOf (p .deal) (p .counts) c i) j l t) ∙ h))
+
+-- ---- the counts
+
+pub all-up-is : (p : Position) → allUp (p .counts) ≡ allOf 7 (λ i. leb (count p i) 1)
+unfolding allUp count
+all-up-is p = refl
+
+pub field-is : (p : Position) → countsField (p .counts) ≡ pileField p
+unfolding countsField pileField count
+field-is p = refl
+
+pub code-counts-are : (x : ℕ) → table 7 (λ i. fieldCount (codePiles x) i) ≡ table 7 (codeCount x)
+unfolding codeCount
+code-counts-are x = refl
+
 -- ---- turning up and back
 
 pub under-is : (p : Position) (i : ℕ) → underIn (p .deal) (p .counts) i ≡ under p i
@@ -121,3 +147,23 @@ turned-is p i = sym (under-cond (upTurned (withCounts p (oneLess (p .counts) i))
 pub turned-back-is : (p : Position) (i : ℕ) → turnedBack p i ≡ upHidden (withCounts p (oneMore (p .counts) i)) (coveredIn (p .deal) (p .counts) i)
 unfolding turnedBack upHidden oneMore coveredIn pileCard cardAt count
 turned-back-is p i = sym (under-cond (upHidden (withCounts p (oneMore (p .counts) i))) (ltb 0 (getD (p .counts) i 0)) _ _)
+
+-- a head that leaves and comes back: the counts are the old ones, and it covers what it had uncovered
+module _ (n : List ℕ) (i : ℕ) (long : i < length n) (some : 0 < getD n i 0) where
+  popped : getD (oneLess n i) i 0 ≡ getD n i 0 - 1
+  unfolding oneLess
+  popped = getD-set-same n i (getD n i 0 - 1) 0 long
+
+  pub more-less : oneMore (oneLess n i) i ≡ n
+  unfolding oneMore oneLess
+  more-less =
+      let e : getD n i 0 - 1 + 1 ≡ getD n i 0 = omega arith in
+      ap (set (set n i (getD n i 0 - 1)) i) (ap (λ (x : ℕ). x + 1) popped ∙ e) ∙ set-set n i _ _ ∙ set-getD n i 0
+
+  pub covered-under : (d : List ℕ) → coveredIn d (oneLess n i) i ≡ underIn d n i
+  unfolding coveredIn underIn
+  covered-under d =
+      let e : getD n i 0 - 1 - 1 ≡ getD n i 0 - 2 = omega arith in
+      ap (λ (x : ℕ). cond (ltb 0 x) (Card (record { 0 = placed d i (x - 1) })) Emptied) popped
+      ∙ ap₂ (λ (b : Bool) (x : ℕ). cond b (Card (record { 0 = placed d i x })) Emptied)
+      (same-test (ltb 0 (getD n i 0 - 1)) (ltb 1 (getD n i 0)) (λ t. lt-ltb 1 (getD n i 0) (omega (arith, ltb-true 0 (getD n i 0 - 1) t))) (λ t. lt-ltb 0 (getD n i 0 - 1) (omega (arith, ltb-true 1 (getD n i 0) t)))) e

@@ -1,6 +1,6 @@
 -- Document 01, "The position", of a deal and seven counts alone: the locked cards of the piles, as they are found, turned up and turned back.
 -- Each is the position's own, which proofs/HiddenLaw.antt shows.
-use mathlib.Core.Bool.{Bool, true, false, _&&_, cond}
+use mathlib.Core.Bool.{Bool, _&&_, cond}
 use mathlib.Core.List.{List}
 use Prim.Native.Nat.{ℕ, zero, suc, _+_, _-_, _%_, _≤_, _<_}
 use lib.Dec.{eqb, ltb, leb}

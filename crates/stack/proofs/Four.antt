@@ -1,7 +1,7 @@
 -- A test of all four heights, made height by height.
 -- Assumes nothing.
 use mathlib.Core.Bool.{Bool, true, false, _&&_, and-false}
-use mathlib.Core.Path.{_≡_, refl, sym, ap, _∙_}
+use mathlib.Core.Path.{_≡_, sym, ap, _∙_}
 use Prim.Native.Nat.{ℕ, zero, suc, _<_}
 use native.Mathlib.Nat.{not-suc-le-zero, le-of-suc-le-suc}
 use Rattle.rules.specs.Bits.{allOf}

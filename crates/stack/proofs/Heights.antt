@@ -1,10 +1,9 @@
 -- Laws of the heights: the save field and its heights are inverse, going up and going down are inverse, and what the definitions over a
 -- position say of its heights.
 -- Assumes nothing.
-use mathlib.Core.Bool.{Bool}
 use mathlib.Core.Path.{_≡_, refl, ap, _∙_}
 use mathlib.Core.List.{List, [], _∷_}
-use Prim.Native.Nat.{ℕ, zero, suc, _+_, _-_, _*_, _/_, _%_, _^_, _<_, min}
+use Prim.Native.Nat.{ℕ, zero, suc, _+_, _-_, _%_, _^_, _<_, min}
 use native.Mathlib.Omega.{arith}
 use lib.Dec.{leb, lit<}
 use lib.ListN.{length, getD, set}
@@ -13,7 +12,7 @@ use Rattle.rules.specs.declared.Position.{Position}
 use Rattle.rules.specs.Bits.{allOf}
 use Rattle.rules.specs.Places.{height}
 use Rattle.rules.specs.Foundations.{raisedOn, loweredOn, pushedOn, validOn, fullOn, fieldOn}
-use Rattle.rules.specs.Code.{table, codeHeight, heightField}
+use Rattle.rules.specs.Code.{table, codeHeight}
 use Rattle.rules.specs.Play.{withHeights, raised, lowered}
 use Rattle.rules.specs.Cards.{suit}
 use Rattle.rules.specs.Answers.{isWin}
@@ -84,7 +83,7 @@ unfolding lowered
 lowered-heights p c = refl
 
 pub win-full : (p : Position) → isWin p ≡ fullOn (p .heights)
-unfolding isWin fullOn height
+unfolding isWin
 win-full p = refl
 
 pub valid-heights : (p : Position) → allOf 4 (λ s. leb (height p s) 13) ≡ validOn (p .heights)

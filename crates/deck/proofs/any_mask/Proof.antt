@@ -1,11 +1,11 @@
 -- `deck::any_mask` meets its contract.
 -- Assumes nothing.
 use mathlib.Core.Logic.{⊎-elim}
-use mathlib.Core.Path.{_≡_, refl, sym, ap, ap₂, _∙_, subst}
-use Prim.Native.Nat.{ℕ, _-_, _<_, _≤_}
+use mathlib.Core.Path.{_≡_, ap₂, _∙_}
+use Prim.Native.Nat.{_-_}
 use native.Mathlib.Omega.{arith}
 use lib.Bits.{bitOr}
-use Rattle.rules.proofs.Facts.{Facts, facts}
+use Rattle.rules.proofs.Facts.{facts}
 use Rattle.rules.proofs.Shape.{deck-cards}
 use Rattle.deck.proofs.Stride.{find}
 use Rattle.deck.proofs.Reach.{Ends, ends-pure, ends-off, round}

@@ -3,12 +3,11 @@
 use mathlib.Core.Bool.{true, false}
 use mathlib.Core.Logic.{⊎-elim}
 use mathlib.Core.List.{List}
-use mathlib.Core.Path.{_≡_, refl, sym, ap, _∙_}
+use mathlib.Core.Path.{_≡_, sym, ap, _∙_}
 use Prim.Native.Nat.{ℕ, _+_, _-_, _≤_, _<_}
 use native.Mathlib.Omega.{arith}
 use Rattle.bits.specs.Bit.{bit, countOf}
 use lib.ListN.{getD, set}
-use Rattle.rules.specs.Code.{deckOf}
 use Rattle.rules.proofs.Searches.{count-le}
 use Rattle.deck.proofs.Slots.{filled, fill-start, fill-turn, fill-end}
 use Rattle.deck.proofs.Fields.{placed, placed-length, placed-at, count-none, count-next, count-below, is-set, is-clear}
@@ -60,11 +59,13 @@ loop-again c =
     (λ w.
     let e : f (l .k) ≡ true = is-set (a .field) (l .k) (w .0 .taken) in
     let v : ℕ = getD (a .t1) (28 + l .k) 0 in
-    let card : v ≡ getD xs (l .left) 0 = placed-at (a .t1) f (l .k) low e ∙ ap (λ (i : ℕ). getD xs i 0) (sym (l .inv .1)) in
-    (omega arith, omega (arith, w .2, l .inv .1, count-next f (l .k) true e),
-    w .1 ∙ ap (λ (d : List ℕ). set d (l .left) v) (l .inv .2)
-    ∙ fill-turn xs (l .left) v (omega (arith, l .inv .1, placed-length (a .t1) f, count-below 24 f (l .k) low e)) (omega (arith, count-le (l .k) f, l .inv .1)) card
-    ∙ ap (filled xs) (sym (w .2))))
+    let card : v ≡ getD xs (l .left) 0 = placed-at (a .t1) f (l .k) low e ∙ ap (λ (i : ℕ). getD xs i 0) (sym (l .inv .1)) in (
+      omega arith,
+      omega (arith, w .2, l .inv .1, count-next f (l .k) true e),
+      w .1 ∙ ap (λ (d : List ℕ). set d (l .left) v) (l .inv .2)
+          ∙ fill-turn xs (l .left) v (omega (arith, l .inv .1, placed-length (a .t1) f, count-below 24 f (l .k) low e)) (omega (arith, count-le (l .k) f, l .inv .1)) card
+          ∙ ap (filled xs) (sym (w .2)),
+    ))
     (λ w.
     let e : f (l .k) ≡ false = is-clear (a .field) (l .k) (w .0 .left) in
     (omega arith, omega (arith, w .2, l .inv .1, count-next f (l .k) false e), w .1 ∙ l .inv .2 ∙ ap (filled xs) (sym (w .2))))

@@ -1,8 +1,8 @@
 -- `deck::draw` meets its contract: the slots are filled from the front.
 -- Assumes nothing.
 use mathlib.Core.Logic.{⊎-elim}
-use mathlib.Core.Path.{_≡_, sym, ap, _∙_}
-use Prim.Native.Nat.{ℕ, _+_, _-_, _≤_, _<_}
+use mathlib.Core.Path.{_≡_, ap, _∙_}
+use Prim.Native.Nat.{ℕ, _-_, _≤_}
 use native.Mathlib.Omega.{arith}
 use lib.ListN.{getD}
 use Rattle.rules.specs.Play.{drawAt}
@@ -12,10 +12,10 @@ use Rattle.deck.proofs.draw.Statement.{statement}
 use Rattle.deck.proofs.draw.Tie as tie
 
 abbrev Inv-loop : tie.InvT-loop
-Inv-loop left place deck at end out₀ j₀ out j = (j ≤ end) × (out ≡ filled (drawAt deck left place) j)
+Inv-loop left place deck at end rest₀ j₀ rest j = (j ≤ end) × (rest ≡ filled (drawAt deck left place) j)
 
 abbrev μ-loop : tie.MeasureT-loop
-μ-loop left place deck at end out₀ j₀ out j = end - j
+μ-loop left place deck at end rest₀ j₀ rest j = end - j
 
 sub-end : tie.Need-sub-end Inv-loop μ-loop
 sub-end c = search needs
@@ -26,11 +26,11 @@ loop-holds c = (omega arith, fill-start (drawAt (c .args .t1) (c .args .left) (c
 add-from : tie.Need-add-from Inv-loop μ-loop
 add-from c = search needs
 
-array-read-out : tie.Need-array-read-out Inv-loop μ-loop
-array-read-out c = ⊎-elim (λ w. omega (arith, w .1)) (λ w. omega (arith, w .1)) (c .if1 .came)
+array-read-rest : tie.Need-array-read-rest Inv-loop μ-loop
+array-read-rest c = ⊎-elim (λ w. omega (arith, w .1)) (λ w. omega (arith, w .1)) (c .if1 .came)
 
-array-write-out : tie.Need-array-write-out Inv-loop μ-loop
-array-write-out c = search needs
+array-write-rest : tie.Need-array-write-rest Inv-loop μ-loop
+array-write-rest c = search needs
 
 add-j : tie.Need-add-j Inv-loop μ-loop
 add-j c = search needs
@@ -65,8 +65,8 @@ draw-spec =
     sub-end
     loop-holds
     add-from
-    array-read-out
-    array-write-out
+    array-read-rest
+    array-write-rest
     add-j
     loop-less
     loop-again

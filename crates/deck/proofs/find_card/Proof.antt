@@ -1,9 +1,7 @@
 -- `deck::find_card` meets its contract.
 -- Assumes nothing.
-use mathlib.Core.Bool.{Bool}
-use mathlib.Core.Path.{_≡_, sym, ap, _∙_, subst}
+use mathlib.Core.Path.{_≡_, sym, ap, _∙_}
 use Prim.Native.Nat.{ℕ, _+_, _-_, _≤_, _<_}
-use native.Mathlib.Numerals.{add-one}
 use native.Mathlib.Omega.{arith}
 use lib.Dec.{eqb}
 use lib.ListN.{getD}
@@ -11,7 +9,7 @@ use borrow.Author.Count.{below-more}
 use Rattle.rules.specs.Bits.{anyOf}
 use Rattle.rules.specs.Places.{inDeck, deckCard}
 use Rattle.rules.proofs.Shape.{shape}
-use Rattle.deck.proofs.Passing.{byte-le, Right, right, Walk, walk-start, walk-step, has, found-at, nowhere}
+use Rattle.deck.proofs.Passing.{byte-le, Right, right, Walk, walk-start, walk-step, found-at, nowhere}
 use borrow.Author.Needs.{needs}
 use Rattle.deck.proofs.find_card.Statement.{statement}
 use Rattle.deck.proofs.find_card.Tie as tie
@@ -52,9 +50,10 @@ unfolding inDeck deckCard
 returns c =
     let l = c .before .before .before .loop in
     let p = c .before .before .before .before .before .before .before .args .p in
-    let s = walk-step (p .deal) (p .deck) (p .left) (ordered (c .before .before .before .before)) (l .k) (l .at) (c .before .before .loop-test .taken) (l .inv .0) (c .before .stands .result) (sym (c .before .stands .ensures)) in
-    (sym (s .0) ∙ ap (λ (x : ℕ). anyOf (p .left) (λ j. eqb (getD (p .deck) j 0) x)) (c .if1 .taken),
-    found-at p (c .before .before .before .before .before .before .before .args .card) (l .k) (l .at) (c .before .before .loop-test .taken) (l .inv .0) (l .inv .2) (c .if1 .taken))
+    let s = walk-step (p .deal) (p .deck) (p .left) (ordered (c .before .before .before .before)) (l .k) (l .at) (c .before .before .loop-test .taken) (l .inv .0) (c .before .stands .result) (sym (c .before .stands .ensures)) in (
+      sym (s .0) ∙ ap (λ (x : ℕ). anyOf (p .left) (λ j. eqb (getD (p .deck) j 0) x)) (c .if1 .taken),
+      found-at p (c .before .before .before .before .before .before .before .args .card) (l .k) (l .at) (c .before .before .loop-test .taken) (l .inv .0) (l .inv .2) (c .if1 .taken),
+    )
 
 cast-at : tie.Need-cast-at Inv-loop μ-loop
 cast-at c = search needs

@@ -1,9 +1,5 @@
 -- `deck::is_pure` meets its contract.
 -- Assumes nothing.
-use mathlib.Core.Bool.{Bool, _||_}
-use mathlib.Core.Path.{_≡_, sym, ap}
-use Prim.Native.Nat.{ℕ, _%_}
-use lib.Dec.{eqb}
 use borrow.Author.Tests.{eq-eqb, ne-eqb}
 use borrow.Author.Needs.{needs}
 use Rattle.deck.proofs.is_pure.Statement.{statement}

@@ -1,8 +1,7 @@
 -- `deck::normalized_offset` meets its contract.
 -- Assumes nothing.
 use mathlib.Core.Bool.{Bool, cond}
-use mathlib.Core.Path.{_≡_, sym, ap, _∙_}
-use Prim.Native.Nat.{ℕ}
+use mathlib.Core.Path.{sym, ap, _∙_}
 use Rattle.rules.specs.Code.{storedOffset}
 use borrow.Author.Needs.{needs}
 use Rattle.deck.proofs.normalized_offset.Statement.{statement}

@@ -1,10 +1,10 @@
 -- `deck::offset` meets its contract.
 -- Assumes nothing.
-use mathlib.Core.Path.{_≡_, sym, ap, ap₂, _∙_, subst}
+use mathlib.Core.Path.{sym, ap₂, _∙_, subst}
 use Prim.Native.Nat.{ℕ, _+_, _-_, _*_, _%_, _≤_, _<_, min}
-use native.Mathlib.Nat.{mod-lt, div-le-self}
+use native.Mathlib.Nat.{lt-of-lt-of-le, div-le-self}
 use native.Mathlib.Omega.{arith}
-use Rattle.deck.proofs.Rounds.{ceil, ceil-low, to-end, past-end}
+use Rattle.deck.proofs.Rounds.{ceil-low, round-low, to-end, past-end}
 use borrow.Author.Needs.{needs}
 use Rattle.deck.proofs.offset.Statement.{statement}
 use Rattle.deck.proofs.offset.Tie as tie
@@ -56,11 +56,7 @@ mul-min-2 : tie.Need-mul-min-2
 mul-min-2 c =
     let s = c .before .before .before in
     let a = s .args in
-    let w : ℕ = c .div-ceil2 .result in
-    let x : ℕ = (a .n - c .before .before .div-ceil .result - 1) % (w + 1) in
-    let low : x < w + 1 = mod-lt (a .n - c .before .before .div-ceil .result - 1) (omega arith) in
-    let below : x ≤ ceil (a .step) (a .len) = subst (λ (y : ℕ). x ≤ y) (c .div-ceil2 .ensures) (omega arith) in
-    omega (arith, ceil-low (a .len) (a .step) (s .pre .1) x (a .len) below)
+    record { fits = lt-of-lt-of-le (round-low (a .len) (a .step) (s .pre .1) (c .div-ceil2 .result) _ (c .div-ceil2 .ensures)) (omega arith) }
 
 min-requires-2 : tie.Need-min-requires-2
 min-requires-2 c κs = search needs

@@ -1,6 +1,6 @@
 -- `deck::offset_once` meets its contract.
 -- Assumes nothing.
-use mathlib.Core.Path.{_≡_, sym, _∙_}
+use mathlib.Core.Path.{sym, _∙_}
 use Rattle.rules.proofs.DealsLaw.{dealt-end, dealt-on}
 use borrow.Author.Needs.{needs}
 use Rattle.deck.proofs.offset_once.Statement.{statement}

@@ -2,10 +2,9 @@
 -- Assumes nothing.
 use native.Mathlib.Omega.{arith}
 use Prim.Native.Nat.{_<_}
-use borrow.Author.Tests.{eq-eqb, lt-ltb, le-ltb, le-leb, lt-leb}
+use borrow.Author.Tests.{lt-ltb, le-ltb, le-leb, lt-leb}
 use Rattle.rules.specs.Proper.{stepRight}
 use Rattle.rules.specs.Answers.{cursorRefusal}
-use borrow.Author.Needs.{needs}
 use Rattle.deck.proofs.refusal.Statement.{statement}
 use Rattle.deck.proofs.refusal.Tie as tie
 

@@ -27,7 +27,7 @@ returns-3 c =
     rw (is-right (c .before .before .before .before .args .p) (c .before .before .before .is-proper .ensures) (c .before .before .if1 .left), le-leb _ _ (c .before .if2 .left), lt-leb _ _ (c .if3 .taken))
 
 is-valid-move-requires : tie.Need-is-valid-move-requires
-is-valid-move-requires c κs = (is-proper (c .before .before .before .before .args .p) (c .before .before .before .is-proper .ensures) (c .before .before .if1 .left), omega arith)
+is-valid-move-requires c κs = (is-proper (c .before .before .before .before .args .p) (c .before .before .before .is-proper .ensures) (c .before .before .if1 .left), omega arith, omega arith)
 
 returns-4 : tie.Need-returns-4
 unfolding testAnswer testRefusal told isKindAndCard

@@ -1,20 +1,16 @@
 -- `hidden::alone_mask` meets its contract.
 -- Assumes nothing.
 use borrow.Author.Needs.{needs}
-use mathlib.Core.Bool.{Bool, true, false, _&&_}
-use mathlib.Core.Path.{_≡_, refl, sym, ap, _∙_}
-use Prim.Native.Nat.{ℕ, _+_, _-_, _*_, _≤_, _<_}
+use mathlib.Core.Path.{_≡_, refl, ap}
+use Prim.Native.Nat.{ℕ, _-_, _≤_, _<_}
 use native.Mathlib.Omega.{arith}
-use lib.Dec.{eqb, ltb, leb}
+use lib.Dec.{eqb}
 use lib.ListN.{getD}
-use Rattle.rules.specs.Bits.{maskOf, anyOf, allOf}
-use Rattle.rules.specs.Hidden.{placed, headOf, bareOf, headIn, aloneIn, buriedIn, lockedIn, headPile, barePile, allUp, sumOf, downCards}
-use Rattle.hidden.proofs.Collected.{picked, picked-step, fronts, fronts-step, some-le, less-one, last-place, in-deal}
+use Rattle.rules.specs.Bits.{maskOf, anyOf}
+use Rattle.rules.specs.Hidden.{placed, aloneIn}
+use Rattle.hidden.proofs.Collected.{picked, picked-step, in-deal}
 use Rattle.hidden.proofs.alone_mask.Statement.{statement}
 use Rattle.hidden.proofs.alone_mask.Tie as tie
-use Rattle.hidden.proofs.alone_mask.Reads as reads
-use Rattle.hidden.proofs.alone_mask.Lts as lts
-use Rattle.card.proofs.pile_start.Reads as pile-start-reads
 
 abbrev Inv-loop : tie.InvT-loop
 Inv-loop deal counts mask₀ i₀ mask i = (i ≤ 7) × (mask ≡ picked (λ j. eqb (getD counts j 0) 1) (λ j. placed deal j 0) i)
@@ -61,15 +57,17 @@ loop-less : tie.Need-loop-less Inv-loop μ-loop
 loop-less c = search needs
 
 loop-again : tie.Need-loop-again Inv-loop μ-loop
-loop-again c = 
+loop-again c =
     let b = c .before .before .before .before in
-    let d = b .before .args .deal .now in
-    (omega arith, rw (b .loop .inv .1) (picked-step (λ j. eqb (getD (b .before .args .counts .now) j 0) 1) (λ j. placed d j 0) (b .loop .i) _ (card (c .before .before))
-    (λ t. ap (λ (k : ℕ). getD d k 0) (omega (arith, c .before .before .pile-start .ensures)))))
+    let d = b .before .args .deal .now in (
+      omega arith,
+      rw (b .loop .inv .1) (picked-step (λ j. eqb (getD (b .before .args .counts .now) j 0) 1) (λ j. placed d j 0) (b .loop .i) _ (card (c .before .before))
+          (λ t. ap (λ (k : ℕ). getD d k 0) (omega (arith, c .before .before .pile-start .ensures)))),
+    )
 
 returns : tie.Need-returns Inv-loop μ-loop
 unfolding aloneIn
-returns c = 
+returns c =
     let e : c .before .loop .i ≡ 7 = omega arith in
     rw e at (c .before .loop .inv .1)
 

@@ -1,22 +1,17 @@
 -- `hidden::buried_mask` meets its contract.
 -- Assumes nothing.
 use borrow.Author.Needs.{needs}
-use mathlib.Core.Bool.{Bool, true, false, _&&_}
-use mathlib.Core.Path.{_≡_, refl, sym, ap, _∙_}
-use Prim.Native.Nat.{ℕ, _+_, _-_, _*_, _≤_, _<_}
+use mathlib.Core.Path.{_≡_, refl}
+use Prim.Native.Nat.{ℕ, _+_, _-_, _≤_}
 use native.Mathlib.Omega.{arith}
-use lib.Dec.{eqb, ltb, leb}
+use lib.Dec.{ltb}
 use lib.ListN.{getD}
 use mir.Val.{boolByte}
-use Rattle.rules.specs.Bits.{maskOf, anyOf, allOf}
-use Rattle.rules.specs.Hidden.{placed, headOf, bareOf, headIn, aloneIn, buriedIn, lockedIn, headPile, barePile, allUp, sumOf, downCards}
-use Rattle.hidden.proofs.Collected.{picked, picked-step, fronts, fronts-step, some-le, less-one, last-place, in-deal}
+use Rattle.rules.specs.Bits.{maskOf, anyOf}
+use Rattle.rules.specs.Hidden.{buriedIn}
+use Rattle.hidden.proofs.Collected.{fronts, fronts-step, some-le, less-one, in-deal}
 use Rattle.hidden.proofs.buried_mask.Statement.{statement}
 use Rattle.hidden.proofs.buried_mask.Tie as tie
-use Rattle.hidden.proofs.buried_mask.Reads as reads
-use Rattle.hidden.proofs.buried_mask.Lts as lts
-use Rattle.hidden.proofs.cards_from.Reads as cards-from-reads
-use Rattle.card.proofs.pile_start.Reads as pile-start-reads
 
 abbrev Inv-loop : tie.InvT-loop
 Inv-loop deal counts mask₀ i₀ mask i = (i ≤ 7) × (mask ≡ fronts deal (λ j. getD counts j 0 - 1) i)
@@ -41,8 +36,8 @@ element-copy-out-n c = search needs
 cast-n : tie.Need-cast-n Inv-loop μ-loop
 cast-n c = omega (arith, fits (c .before))
 
-cast-some : tie.Need-cast-some Inv-loop μ-loop
-cast-some c = search needs
+cast-head : tie.Need-cast-head Inv-loop μ-loop
+cast-head c = search needs
 
 pile-start-requires : tie.Need-pile-start-requires Inv-loop μ-loop
 pile-start-requires c κs = search needs
@@ -51,12 +46,12 @@ cast-cards-from : tie.Need-cast-cards-from Inv-loop μ-loop
 cast-cards-from c = search needs
 
 sub-cards-from : tie.Need-sub-cards-from Inv-loop μ-loop
-sub-cards-from c = some-le (count-of (c .before .before .before))
+sub-cards-from c = some-le _ (count-of (c .before .before .before))
 
 cards-from-requires : tie.Need-cards-from-requires Inv-loop μ-loop
-cards-from-requires c κs = 
+cards-from-requires c κs =
     let i = c .before .before .before .before .loop .i in
-    omega (arith, last-place i (count-of (c .before .before .before)) (c .pile-start .result) (c .before .before .before .loop-test .taken) (fits (c .before .before .before)) (c .pile-start .ensures))
+    omega (arith, in-deal i (count-of (c .before .before .before)) (c .pile-start .result) (c .before .before .before .loop-test .taken) (fits (c .before .before .before)) (c .pile-start .ensures))
 
 add-i : tie.Need-add-i Inv-loop μ-loop
 add-i c = search needs
@@ -65,14 +60,14 @@ loop-less : tie.Need-loop-less Inv-loop μ-loop
 loop-less c = search needs
 
 loop-again : tie.Need-loop-again Inv-loop μ-loop
-loop-again c = 
+loop-again c =
     let b = c .before .before .before .before .before in
     let n = count-of (c .before .before .before .before) in
     (omega arith, rw (b .loop .inv .1) (fronts-step (b .before .args .deal .now) (λ j. getD (b .before .args .counts .now) j 0 - 1) (b .loop .i) (c .before .pile-start .result) (n - boolByte (ltb 0 n)) (c .cards-from .result) (b .before .pre .0) (omega arith) (omega (arith, fits (c .before .before .before .before))) (c .before .pile-start .ensures) (less-one n) (c .cards-from .ensures)))
 
 returns : tie.Need-returns Inv-loop μ-loop
 unfolding buriedIn
-returns c = 
+returns c =
     let e : c .before .loop .i ≡ 7 = omega arith in
     rw e at (c .before .loop .inv .1)
 
@@ -85,7 +80,7 @@ buried-mask-spec =
     loop-holds
     element-copy-out-n
     cast-n
-    cast-some
+    cast-head
     pile-start-requires
     cast-cards-from
     sub-cards-from

@@ -3,20 +3,17 @@
 use borrow.Author.Needs.{needs}
 use borrow.Author.Count.{below-more}
 use borrow.Author.Tests.{lt-ltb, le-ltb}
-use mathlib.Core.Bool.{Bool, cond}
 use mathlib.Core.Path.{_≡_, refl, sym, ap, _∙_}
 use mathlib.Core.List.{List}
 use Prim.Native.Nat.{ℕ, _+_, _-_, _/_, _%_, _≤_, _<_}
 use native.Mathlib.Nat.{mod-lt, not-suc-le-zero}
 use native.Mathlib.Omega.{arith}
-use lib.ListN.{getD, length, length-set, replicate}
+use lib.ListN.{getD, length, length-set}
 use lib.Seq.{getD-set-same, getD-set-other}
-use Rattle.rules.specs.Code.{fieldCount, radices, table}
+use Rattle.rules.specs.Code.{fieldCount, radices}
 use Rattle.rules.proofs.PileField.{rest-none, rest-more, table-ext, table-of}
 use Rattle.hidden.proofs.decode.Statement.{statement}
 use Rattle.hidden.proofs.decode.Tie as tie
-use Rattle.hidden.proofs.decode.Reads as reads
-use Rattle.hidden.proofs.decode.Lts as lts
 
 record Inv (field : ℕ) (counts : List ℕ) (rest i : ℕ) : Type 0 where
   seen : i ≤ 7
@@ -31,8 +28,8 @@ abbrev μ-loop : tie.MeasureT-loop
 μ-loop field counts₀ rest₀ i₀ counts rest i = 7 - i
 
 returns : tie.Need-returns Inv-loop μ-loop
-returns c = 
-    let e = le-ltb (c .before .args .field) 40320 (c .if1 .taken) in
+returns c =
+    let e = le-ltb (c .before .args .field) 40320 (omega (arith, c .if1 .taken)) in
     (sym e, rw e refl)
 
 loop-holds : tie.Need-loop-holds Inv-loop μ-loop
@@ -63,7 +60,7 @@ loop-less : tie.Need-loop-less Inv-loop μ-loop
 loop-less c = search needs
 
 loop-again : tie.Need-loop-again Inv-loop μ-loop
-loop-again c = 
+loop-again c =
     let l = c .before .loop in
     let x = c .before .before .before .args .field in
     let v : l .rest % (l .i + 2) ≡ fieldCount x (l .i) = ap (λ (r : ℕ). r % (l .i + 2)) (l .inv .over) in
@@ -77,10 +74,10 @@ loop-again c =
     }
 
 returns-2 : tie.Need-returns-2 Inv-loop μ-loop
-returns-2 c = 
+returns-2 c =
     let l = c .before .loop in
     let x = c .before .before .before .args .field in
-    let e = lt-ltb x 40320 (c .before .before .if1 .left) in
+    let e = lt-ltb x 40320 (omega (arith, c .before .before .if1 .left)) in
     let z : l .i ≡ 7 = omega arith in
     (sym e, rw e (sym (table-of 7 (l .counts) (l .inv .long)) ∙ table-ext 7 _ (λ i. fieldCount x i) (rw z at (l .inv .digits))))
 

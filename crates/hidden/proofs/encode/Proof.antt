@@ -1,16 +1,14 @@
 -- `hidden::encode` meets its contract.
 -- Assumes nothing.
 use borrow.Author.Needs.{needs}
-use mathlib.Core.Path.{_≡_, sym, ap, _∙_}
-use Prim.Native.Nat.{ℕ, _+_, _-_, _*_, _≤_, _<_}
+use mathlib.Core.Path.{_≡_, _∙_}
+use Prim.Native.Nat.{_+_, _-_, _*_, _≤_, _<_}
 use native.Mathlib.Omega.{arith}
 use lib.ListN.{getD}
 use Rattle.rules.specs.Code.{countsField}
 use Rattle.rules.proofs.PileField.{fieldFrom, field-none, field-more, field-whole, from-low}
 use Rattle.hidden.proofs.encode.Statement.{statement}
 use Rattle.hidden.proofs.encode.Tie as tie
-use Rattle.hidden.proofs.encode.Reads as reads
-use Rattle.hidden.proofs.encode.Lts as lts
 
 abbrev Inv-loop : tie.InvT-loop
 Inv-loop counts res₀ i₀ res i = (i ≤ 7) × (res ≡ fieldFrom (λ j. getD counts j 0) (7 - i) i)
@@ -61,7 +59,7 @@ loop-again c = (omega arith, after (c .before))
 
 returns : tie.Need-returns Inv-loop μ-loop
 unfolding countsField
-returns c = 
+returns c =
     let e : c .before .loop .i ≡ 0 = omega arith in
     rw e at (c .before .loop .inv .1) ∙ field-whole (λ j. getD (c .before .before .args .counts .now) j 0)
 

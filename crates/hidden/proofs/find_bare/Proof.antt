@@ -1,26 +1,22 @@
 -- `hidden::find_bare` meets its contract.
 -- Assumes nothing.
 use borrow.Author.Needs.{needs}
-use mathlib.Core.Bool.{Bool, true, false, _&&_, true≢false}
-use mathlib.Core.Path.{_≡_, refl, sym, ap, _∙_}
-use Prim.Native.Nat.{ℕ, _+_, _-_, _*_, _≤_, _<_}
+use mathlib.Core.Bool.{true}
+use mathlib.Core.Path.{_≡_, sym, _∙_}
+use Prim.Native.Nat.{ℕ, _+_, _-_, _≤_, _<_}
 use native.Mathlib.Omega.{arith}
-use lib.Dec.{eqb, ltb, leb}
+use lib.Dec.{leb}
 use lib.ListN.{getD}
-use borrow.Author.Tests.{leb-true, le-leb}
+use borrow.Author.Tests.{le-leb, lt-leb}
 use Rattle.rules.specs.Places.{pileStart}
-use Rattle.rules.proofs.Searches.{and-left, and-right, and-both}
 use mathlib.Core.Logic.{⊎-elim}
 use borrow.Author.Count.{below-more}
 use Rattle.rules.proofs.Steps.{first-at, first-none}
-use Rattle.rules.specs.Bits.{maskOf, anyOf, allOf}
-use Rattle.rules.specs.Hidden.{placed, headOf, bareOf, headIn, aloneIn, buriedIn, lockedIn, headPile, barePile, allUp, sumOf, downCards}
-use Rattle.hidden.proofs.Collected.{picked, picked-step, fronts, fronts-step, some-le, less-one, last-place, in-deal}
+use Rattle.rules.specs.Hidden.{bareOf, barePile}
+use Rattle.hidden.proofs.Collected.{in-deal}
+use Rattle.hidden.proofs.Found.{card-there, other-card, no-place}
 use Rattle.hidden.proofs.find_bare.Statement.{statement}
 use Rattle.hidden.proofs.find_bare.Tie as tie
-use Rattle.hidden.proofs.find_bare.Reads as reads
-use Rattle.hidden.proofs.find_bare.Lts as lts
-use Rattle.card.proofs.pile_start.Reads as pile-start-reads
 
 abbrev Inv-loop : tie.InvT-loop
 Inv-loop deal counts card i₀ i = (i ≤ 7) × ((k : ℕ) → k < i → bareOf deal counts card k ≡ true → ⊥)
@@ -54,22 +50,21 @@ add-if2 : tie.Need-add-if2 Inv-loop μ-loop
 add-if2 c = search needs
 
 element-copy-out-if2 : tie.Need-element-copy-out-if2 Inv-loop μ-loop
-element-copy-out-if2 c = 
+element-copy-out-if2 c =
     let b = c .before .before .before in
     omega (arith, in-deal (b .before .loop .i) (count-of b + 1) (c .pile-start .result) (b .loop-test .taken) (omega (arith, c .before .if1 .taken)) (c .pile-start .ensures))
 
 returns : tie.Need-returns Inv-loop μ-loop
 unfolding barePile
-returns c = 
+returns c =
     let b = c .before .before .before .before .before in
-    let d = b .before .before .args .deal .now in
-    let x = b .before .before .args .card in
+    let a = b .before .before .args in
     let i = b .before .loop .i in
     let n = count-of b in
     let s = c .before .before .pile-start .result in
     let k : s + n ≡ pileStart i + n = omega (arith, c .before .before .pile-start .ensures, c .before .before .before .if1 .taken) in
-    sym (first-at 7 (λ j. bareOf d (b .before .before .args .counts .now) x j) i (b .loop-test .taken) (b .before .loop .inv .1)
-    (and-both (leb n i) (eqb (getD d (pileStart i + n) 0) x) (le-leb n i (c .before .before .before .if1 .taken)) (ap (λ (y : ℕ). eqb (getD d y 0) x) (sym k) ∙ c .if2 .taken)))
+    sym (first-at 7 (λ j. bareOf (a .deal .now) (a .counts .now) (a .card) j) i (b .loop-test .taken) (b .before .loop .inv .1)
+    (card-there (a .deal .now) (a .card) (s + n) (pileStart i + n) k (leb n i) (le-leb n i (c .before .before .before .if1 .taken)) (c .if2 .taken)))
 
 add-i : tie.Need-add-i Inv-loop μ-loop
 add-i c = search needs
@@ -78,24 +73,25 @@ loop-less : tie.Need-loop-less Inv-loop μ-loop
 loop-less c = search needs
 
 loop-again : tie.Need-loop-again Inv-loop μ-loop
-loop-again c = 
+loop-again c =
     let b = c .before .before in
-    let d = b .before .before .args .deal .now in
-    let x = b .before .before .args .card in
+    let a = b .before .before .args in
     let i = b .before .loop .i in
-    let n = count-of b in
-    (omega arith, below-more _ _ (b .before .loop .inv .1)
-    (⊎-elim
-    (λ w t.
-    let s = w .1 .result in
-    let k : s + n ≡ pileStart i + n = omega (arith, w .1 .ensures, w .0 .taken) in
-    true≢false (sym (and-right (leb n i) (eqb (getD d (pileStart i + n) 0) x) t) ∙ ap (λ (y : ℕ). eqb (getD d y 0) x) (sym k) ∙ w .3 .left))
-    (λ w t. omega (arith, w .left, leb-true n i (and-left (leb n i) (eqb (getD d (pileStart i + n) 0) x) t)))
-    (c .if1 .came)))
+    let n = count-of b in (
+      omega arith,
+      below-more _ _ (b .before .loop .inv .1)
+          (⊎-elim
+          (λ w.
+          let s = w .1 .result in
+          let k : s + n ≡ pileStart i + n = omega (arith, w .1 .ensures, w .0 .taken) in
+          other-card (a .deal .now) (a .card) (s + n) (pileStart i + n) k (leb n i) (w .3 .left))
+          (λ w. no-place (leb n i) _ (lt-leb n i (w .left)))
+          (c .if1 .came)),
+    )
 
 returns-2 : tie.Need-returns-2 Inv-loop μ-loop
 unfolding barePile
-returns-2 c = 
+returns-2 c =
     let e : c .before .loop .i ≡ 7 = omega arith in
     e ∙ sym (first-none 7 _ (rw e at (c .before .loop .inv .1)))
 

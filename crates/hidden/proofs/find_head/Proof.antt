@@ -1,26 +1,22 @@
 -- `hidden::find_head` meets its contract.
 -- Assumes nothing.
 use borrow.Author.Needs.{needs}
-use mathlib.Core.Bool.{Bool, true, false, _&&_, true≢false}
-use mathlib.Core.Path.{_≡_, refl, sym, ap, _∙_}
-use Prim.Native.Nat.{ℕ, _+_, _-_, _*_, _≤_, _<_}
+use mathlib.Core.Bool.{true}
+use mathlib.Core.Path.{_≡_, sym, _∙_}
+use Prim.Native.Nat.{ℕ, _+_, _-_, _≤_, _<_}
 use native.Mathlib.Omega.{arith}
-use lib.Dec.{eqb, ltb, leb}
+use lib.Dec.{ltb}
 use lib.ListN.{getD}
-use borrow.Author.Tests.{ltb-true, lt-ltb}
+use borrow.Author.Tests.{lt-ltb, le-ltb}
 use Rattle.rules.specs.Places.{pileStart}
-use Rattle.rules.proofs.Searches.{and-left, and-right, and-both}
 use mathlib.Core.Logic.{⊎-elim}
 use borrow.Author.Count.{below-more}
 use Rattle.rules.proofs.Steps.{first-at, first-none}
-use Rattle.rules.specs.Bits.{maskOf, anyOf, allOf}
-use Rattle.rules.specs.Hidden.{placed, headOf, bareOf, headIn, aloneIn, buriedIn, lockedIn, headPile, barePile, allUp, sumOf, downCards}
-use Rattle.hidden.proofs.Collected.{picked, picked-step, fronts, fronts-step, some-le, less-one, last-place, in-deal}
+use Rattle.rules.specs.Hidden.{headOf, headPile}
+use Rattle.hidden.proofs.Collected.{in-deal}
+use Rattle.hidden.proofs.Found.{card-there, other-card, no-place}
 use Rattle.hidden.proofs.find_head.Statement.{statement}
 use Rattle.hidden.proofs.find_head.Tie as tie
-use Rattle.hidden.proofs.find_head.Reads as reads
-use Rattle.hidden.proofs.find_head.Lts as lts
-use Rattle.card.proofs.pile_start.Reads as pile-start-reads
 
 abbrev Inv-loop : tie.InvT-loop
 Inv-loop deal counts card i₀ i = (i ≤ 7) × ((k : ℕ) → k < i → headOf deal counts card k ≡ true → ⊥)
@@ -64,16 +60,15 @@ element-copy-out-if2 c = omega (arith, place c)
 
 returns : tie.Need-returns Inv-loop μ-loop
 unfolding headPile
-returns c = 
+returns c =
     let b = c .before .before .before .before .before in
-    let d = b .before .before .args .deal .now in
-    let x = b .before .before .args .card in
+    let a = b .before .before .args in
     let i = b .before .loop .i in
     let n = count-of b in
     let s = c .before .before .pile-start .result in
     let k : s + n - 1 ≡ pileStart i + (n - 1) = omega (arith, c .before .before .pile-start .ensures, c .before .before .before .if1 .taken) in
-    sym (first-at 7 (λ j. headOf d (b .before .before .args .counts .now) x j) i (b .loop-test .taken) (b .before .loop .inv .1)
-    (and-both (ltb 0 n) (eqb (getD d (pileStart i + (n - 1)) 0) x) (lt-ltb 0 n (c .before .before .before .if1 .taken)) (ap (λ (y : ℕ). eqb (getD d y 0) x) (sym k) ∙ c .if2 .taken)))
+    sym (first-at 7 (λ j. headOf (a .deal .now) (a .counts .now) (a .card) j) i (b .loop-test .taken) (b .before .loop .inv .1)
+    (card-there (a .deal .now) (a .card) (s + n - 1) (pileStart i + (n - 1)) k (ltb 0 n) (lt-ltb 0 n (c .before .before .before .if1 .taken)) (c .if2 .taken)))
 
 add-i : tie.Need-add-i Inv-loop μ-loop
 add-i c = search needs
@@ -82,24 +77,25 @@ loop-less : tie.Need-loop-less Inv-loop μ-loop
 loop-less c = search needs
 
 loop-again : tie.Need-loop-again Inv-loop μ-loop
-loop-again c = 
+loop-again c =
     let b = c .before .before in
-    let d = b .before .before .args .deal .now in
-    let x = b .before .before .args .card in
+    let a = b .before .before .args in
     let i = b .before .loop .i in
-    let n = count-of b in
-    (omega arith, below-more _ _ (b .before .loop .inv .1)
-    (⊎-elim
-    (λ w t.
-    let s = w .1 .result in
-    let k : s + n - 1 ≡ pileStart i + (n - 1) = omega (arith, w .1 .ensures, w .0 .taken) in
-    true≢false (sym (and-right (ltb 0 n) (eqb (getD d (pileStart i + (n - 1)) 0) x) t) ∙ ap (λ (y : ℕ). eqb (getD d y 0) x) (sym k) ∙ w .3 .left))
-    (λ w t. omega (arith, w .left, ltb-true 0 n (and-left (ltb 0 n) (eqb (getD d (pileStart i + (n - 1)) 0) x) t)))
-    (c .if1 .came)))
+    let n = count-of b in (
+      omega arith,
+      below-more _ _ (b .before .loop .inv .1)
+          (⊎-elim
+          (λ w.
+          let s = w .1 .result in
+          let k : s + n - 1 ≡ pileStart i + (n - 1) = omega (arith, w .1 .ensures, w .0 .taken) in
+          other-card (a .deal .now) (a .card) (s + n - 1) (pileStart i + (n - 1)) k (ltb 0 n) (w .3 .left))
+          (λ w. no-place (ltb 0 n) _ (le-ltb 0 n (w .left)))
+          (c .if1 .came)),
+    )
 
 returns-2 : tie.Need-returns-2 Inv-loop μ-loop
 unfolding headPile
-returns-2 c = 
+returns-2 c =
     let e : c .before .loop .i ≡ 7 = omega arith in
     e ∙ sym (first-none 7 _ (rw e at (c .before .loop .inv .1)))
 

@@ -1,22 +1,18 @@
 -- `hidden::head_mask` meets its contract.
 -- Assumes nothing.
 use borrow.Author.Needs.{needs}
-use mathlib.Core.Bool.{Bool, true, false, _&&_}
-use mathlib.Core.Path.{_≡_, refl, sym, ap, _∙_}
-use Prim.Native.Nat.{ℕ, _+_, _-_, _*_, _≤_, _<_}
+use mathlib.Core.Path.{_≡_, refl, ap}
+use Prim.Native.Nat.{ℕ, _+_, _-_, _≤_, _<_}
 use native.Mathlib.Omega.{arith}
-use lib.Dec.{eqb, ltb, leb}
+use lib.Dec.{ltb}
 use lib.ListN.{getD}
 use mir.Val.{boolByte}
 use borrow.Author.Tests.{ltb-true}
-use Rattle.rules.specs.Bits.{maskOf, anyOf, allOf}
-use Rattle.rules.specs.Hidden.{placed, headOf, bareOf, headIn, aloneIn, buriedIn, lockedIn, headPile, barePile, allUp, sumOf, downCards}
-use Rattle.hidden.proofs.Collected.{picked, picked-step, fronts, fronts-step, some-le, less-one, last-place, in-deal}
+use Rattle.rules.specs.Bits.{maskOf, anyOf}
+use Rattle.rules.specs.Hidden.{placed, headIn}
+use Rattle.hidden.proofs.Collected.{picked, picked-step, some-le, last-place}
 use Rattle.hidden.proofs.head_mask.Statement.{statement}
 use Rattle.hidden.proofs.head_mask.Tie as tie
-use Rattle.hidden.proofs.head_mask.Reads as reads
-use Rattle.hidden.proofs.head_mask.Lts as lts
-use Rattle.card.proofs.pile_start.Reads as pile-start-reads
 
 abbrev Inv-loop : tie.InvT-loop
 Inv-loop deal counts mask₀ i₀ mask i = (i ≤ 7) × (mask ≡ picked (λ j. ltb 0 (getD counts j 0)) (λ j. placed deal j (getD counts j 0 - 1)) i)
@@ -35,7 +31,7 @@ place : (c : tie.After-pile-start Inv-loop μ-loop) → c .pile-start .result + 
 place c = last-place (c .before .before .before .loop .i) (count-of (c .before .before)) (c .pile-start .result) (c .before .before .loop-test .taken) (fits (c .before .before)) (c .pile-start .ensures)
 
 card : (c : tie.After-pile-start Inv-loop μ-loop) → getD (c .before .before .before .before .args .deal .now) (c .pile-start .result + count-of (c .before .before) - boolByte (ltb 0 (count-of (c .before .before)))) 0 < 52
-card c = c .before .before .before .before .pre .0 _ (omega (arith, place c, some-le (count-of (c .before .before))))
+card c = c .before .before .before .before .pre .0 _ (omega (arith, place c, some-le 0 (count-of (c .before .before))))
 
 loop-holds : tie.Need-loop-holds Inv-loop μ-loop
 unfolding maskOf anyOf
@@ -60,10 +56,10 @@ add-at : tie.Need-add-at Inv-loop μ-loop
 add-at c = omega (arith, place c, fits (c .before .before))
 
 sub-at : tie.Need-sub-at Inv-loop μ-loop
-sub-at c = omega (arith, some-le (count-of (c .before .before)))
+sub-at c = omega (arith, some-le 0 (count-of (c .before .before)))
 
 element-copy-out-mask : tie.Need-element-copy-out-mask Inv-loop μ-loop
-element-copy-out-mask c = omega (arith, place c, some-le (count-of (c .before .before)))
+element-copy-out-mask c = omega (arith, place c, some-le 0 (count-of (c .before .before)))
 
 cast-mask : tie.Need-cast-mask Inv-loop μ-loop
 cast-mask c = omega (arith, card (c .before))
@@ -78,16 +74,18 @@ loop-less : tie.Need-loop-less Inv-loop μ-loop
 loop-less c = search needs
 
 loop-again : tie.Need-loop-again Inv-loop μ-loop
-loop-again c = 
+loop-again c =
     let b = c .before .before .before .before in
     let d = b .before .args .deal .now in
-    let x = count-of (c .before .before .before) in
-    (omega arith, rw (b .loop .inv .1) (picked-step (λ j. ltb 0 (getD (b .before .args .counts .now) j 0)) (λ j. placed d j (getD (b .before .args .counts .now) j 0 - 1)) (b .loop .i) _ (card (c .before))
-    (λ t. ap (λ (k : ℕ). getD d k 0) (rw t (omega (arith, ltb-true 0 x t, c .before .pile-start .ensures))))))
+    let x = count-of (c .before .before .before) in (
+      omega arith,
+      rw (b .loop .inv .1) (picked-step (λ j. ltb 0 (getD (b .before .args .counts .now) j 0)) (λ j. placed d j (getD (b .before .args .counts .now) j 0 - 1)) (b .loop .i) _ (card (c .before))
+          (λ t. ap (λ (k : ℕ). getD d k 0) (rw t (omega (arith, ltb-true 0 x t, c .before .pile-start .ensures))))),
+    )
 
 returns : tie.Need-returns Inv-loop μ-loop
 unfolding headIn
-returns c = 
+returns c =
     let e : c .before .loop .i ≡ 7 = omega arith in
     rw e at (c .before .loop .inv .1)
 

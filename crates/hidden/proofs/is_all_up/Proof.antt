@@ -1,21 +1,18 @@
 -- `hidden::is_all_up` meets its contract.
 -- Assumes nothing.
 use borrow.Author.Needs.{needs}
-use mathlib.Core.Bool.{Bool, true, false, _&&_}
-use mathlib.Core.Path.{_≡_, refl, sym, ap, _∙_}
-use Prim.Native.Nat.{ℕ, _+_, _-_, _*_, _≤_, _<_}
+use mathlib.Core.Bool.{true}
+use mathlib.Core.Path.{_≡_, refl, sym}
+use Prim.Native.Nat.{_-_, _≤_}
 use native.Mathlib.Omega.{arith}
-use lib.Dec.{eqb, ltb, leb}
+use lib.Dec.{leb}
 use lib.ListN.{getD}
 use borrow.Author.Tests.{lt-leb, le-leb}
 use Rattle.rules.proofs.Steps.{all-more, no-all}
-use Rattle.rules.specs.Bits.{maskOf, anyOf, allOf}
-use Rattle.rules.specs.Hidden.{placed, headOf, bareOf, headIn, aloneIn, buriedIn, lockedIn, headPile, barePile, allUp, sumOf, downCards}
-use Rattle.hidden.proofs.Collected.{picked, picked-step, fronts, fronts-step, some-le, less-one, last-place, in-deal}
+use Rattle.rules.specs.Bits.{allOf}
+use Rattle.rules.specs.Hidden.{allUp}
 use Rattle.hidden.proofs.is_all_up.Statement.{statement}
 use Rattle.hidden.proofs.is_all_up.Tie as tie
-use Rattle.hidden.proofs.is_all_up.Reads as reads
-use Rattle.hidden.proofs.is_all_up.Lts as lts
 
 abbrev Inv-loop : tie.InvT-loop
 Inv-loop counts i₀ i = (i ≤ 7) × (allOf i (λ k. leb (getD counts k 0) 1) ≡ true)
@@ -32,7 +29,7 @@ element-copy-out-if1 c = search needs
 
 returns : tie.Need-returns Inv-loop μ-loop
 unfolding allUp
-returns c = 
+returns c =
     let n = getD (c .before .before .before .before .args .counts .now) (c .before .before .before .loop .i) 0 in
     sym (no-all 7 _ (c .before .before .before .loop .i) (c .before .before .loop-test .taken) (lt-leb n 1 (c .if1 .taken)))
 
@@ -43,13 +40,13 @@ loop-less : tie.Need-loop-less Inv-loop μ-loop
 loop-less c = search needs
 
 loop-again : tie.Need-loop-again Inv-loop μ-loop
-loop-again c = 
+loop-again c =
     let n = getD (c .before .before .before .before .args .counts .now) (c .before .before .before .loop .i) 0 in
     (omega arith, all-more (c .before .before .before .loop .i) _ (c .before .before .before .loop .inv .1) (le-leb n 1 (c .if1 .left)))
 
 returns-2 : tie.Need-returns-2 Inv-loop μ-loop
 unfolding allUp
-returns-2 c = 
+returns-2 c =
     let e : c .before .loop .i ≡ 7 = omega arith in
     sym (rw e at (c .before .loop .inv .1))
 

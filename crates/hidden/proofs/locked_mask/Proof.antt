@@ -1,21 +1,15 @@
 -- `hidden::locked_mask` meets its contract.
 -- Assumes nothing.
 use borrow.Author.Needs.{needs}
-use mathlib.Core.Bool.{Bool, true, false, _&&_}
-use mathlib.Core.Path.{_≡_, refl, sym, ap, _∙_}
-use Prim.Native.Nat.{ℕ, _+_, _-_, _*_, _≤_, _<_}
+use mathlib.Core.Path.{_≡_, refl}
+use Prim.Native.Nat.{ℕ, _+_, _-_, _≤_}
 use native.Mathlib.Omega.{arith}
-use lib.Dec.{eqb, ltb, leb}
 use lib.ListN.{getD}
-use Rattle.rules.specs.Bits.{maskOf, anyOf, allOf}
-use Rattle.rules.specs.Hidden.{placed, headOf, bareOf, headIn, aloneIn, buriedIn, lockedIn, headPile, barePile, allUp, sumOf, downCards}
-use Rattle.hidden.proofs.Collected.{picked, picked-step, fronts, fronts-step, some-le, less-one, last-place, in-deal}
+use Rattle.rules.specs.Bits.{maskOf, anyOf}
+use Rattle.rules.specs.Hidden.{lockedIn}
+use Rattle.hidden.proofs.Collected.{fronts, fronts-step, in-deal}
 use Rattle.hidden.proofs.locked_mask.Statement.{statement}
 use Rattle.hidden.proofs.locked_mask.Tie as tie
-use Rattle.hidden.proofs.locked_mask.Reads as reads
-use Rattle.hidden.proofs.locked_mask.Lts as lts
-use Rattle.hidden.proofs.cards_from.Reads as cards-from-reads
-use Rattle.card.proofs.pile_start.Reads as pile-start-reads
 
 abbrev Inv-loop : tie.InvT-loop
 Inv-loop deal counts mask₀ i₀ mask i = (i ≤ 7) × (mask ≡ fronts deal (λ j. getD counts j 0) i)
@@ -47,7 +41,7 @@ cast-cards-from-2 : tie.Need-cast-cards-from-2 Inv-loop μ-loop
 cast-cards-from-2 c = omega (arith, fits (c .before .before .before))
 
 cards-from-requires : tie.Need-cards-from-requires Inv-loop μ-loop
-cards-from-requires c κs = 
+cards-from-requires c κs =
     let i = c .before .before .before .before .loop .i in
     omega (arith, in-deal i (count-of (c .before .before .before)) (c .before .pile-start .result) (c .before .before .before .loop-test .taken) (fits (c .before .before .before)) (c .before .pile-start .ensures))
 
@@ -58,14 +52,14 @@ loop-less : tie.Need-loop-less Inv-loop μ-loop
 loop-less c = search needs
 
 loop-again : tie.Need-loop-again Inv-loop μ-loop
-loop-again c = 
+loop-again c =
     let b = c .before .before .before .before .before in
     let n = count-of (c .before .before .before .before) in
     (omega arith, rw (b .loop .inv .1) (fronts-step (b .before .args .deal .now) (λ j. getD (b .before .args .counts .now) j 0) (b .loop .i) (c .before .before .pile-start .result) n (c .cards-from .result) (b .before .pre .0) (omega arith) (fits (c .before .before .before .before)) (c .before .before .pile-start .ensures) refl (c .cards-from .ensures)))
 
 returns : tie.Need-returns Inv-loop μ-loop
 unfolding lockedIn
-returns c = 
+returns c =
     let e : c .before .loop .i ≡ 7 = omega arith in
     rw e at (c .before .loop .inv .1)
 

@@ -1,6 +1,6 @@
 -- `hidden::pop` meets its contract.
 -- Assumes nothing.
-use mathlib.Core.Bool.{Bool, true, false, cond}
+use mathlib.Core.Bool.{Bool, cond}
 use mathlib.Core.Path.{_≡_, refl, sym, ap, _∙_}
 use Prim.Native.Nat.{ℕ, _+_, _-_, _≤_, _<_}
 use native.Mathlib.Omega.{arith}
@@ -13,9 +13,6 @@ use Rattle.hidden.proofs.Collected.{in-deal}
 use borrow.Author.Needs.{needs}
 use Rattle.hidden.proofs.pop.Statement.{statement}
 use Rattle.hidden.proofs.pop.Tie as tie
-use Rattle.hidden.proofs.pop.Reads as reads
-use Rattle.hidden.proofs.pop.Lts as lts
-use Rattle.card.proofs.pile_start.Reads as pile-start-reads
 
 -- the pile's locked places lie in the deal
 place : (c : tie.After-pile-start) → c .pile-start .result + getD (c .before .before .args .t2) (c .before .before .args .pile) 0 ≤ 52
@@ -31,7 +28,7 @@ array-write-after c = search needs
 
 returns : tie.Need-returns
 unfolding oneLess underIn
-returns c = 
+returns c =
     let n = getD (c .before .args .t2) (c .before .args .pile) 0 in
     let z : _≡_ {A = ℕ} 0 (n - 1) = omega (arith, c .if1 .taken) in
     (ap (set (c .before .args .t2) (c .before .args .pile)) z, sym (ap (λ (b : Bool). cond b (Card (record { 0 = placed (c .before .args .deal .now) (c .before .args .pile) (n - 2) })) Emptied) (le-ltb 1 n (omega (arith, c .if1 .taken)))))
@@ -62,7 +59,7 @@ element-copy-out-t11 c = omega (arith, place c)
 
 returns-2 : tie.Need-returns-2
 unfolding oneLess underIn
-returns-2 c = 
+returns-2 c =
     let a = c .before .before .before .args in
     let n = getD (a .t2) (a .pile) 0 in
     let s = c .before .pile-start .result in

@@ -1,20 +1,15 @@
 -- `hidden::total_down_cards` meets its contract.
 -- Assumes nothing.
 use borrow.Author.Needs.{needs}
-use mathlib.Core.Bool.{Bool, true, false, _&&_}
-use mathlib.Core.Path.{_≡_, refl, sym, ap, _∙_}
-use Prim.Native.Nat.{ℕ, _+_, _-_, _*_, _≤_, _<_}
+use mathlib.Core.Path.{_≡_, refl, sym}
+use Prim.Native.Nat.{ℕ, _+_, _-_, _*_, _≤_}
 use native.Mathlib.Omega.{arith}
-use lib.Dec.{eqb, ltb, leb}
 use lib.ListN.{getD}
 use Rattle.rules.proofs.Steps.{sum-more}
-use Rattle.rules.specs.Bits.{maskOf, anyOf, allOf}
-use Rattle.rules.specs.Hidden.{placed, headOf, bareOf, headIn, aloneIn, buriedIn, lockedIn, headPile, barePile, allUp, sumOf, downCards}
-use Rattle.hidden.proofs.Collected.{picked, picked-step, fronts, fronts-step, some-le, less-one, last-place, in-deal}
+use Rattle.rules.specs.Hidden.{sumOf, downCards}
+use Rattle.hidden.proofs.Collected.{some-le, less-one}
 use Rattle.hidden.proofs.total_down_cards.Statement.{statement}
 use Rattle.hidden.proofs.total_down_cards.Tie as tie
-use Rattle.hidden.proofs.total_down_cards.Reads as reads
-use Rattle.hidden.proofs.total_down_cards.Lts as lts
 
 abbrev Inv-loop : tie.InvT-loop
 Inv-loop counts sum₀ i₀ sum i = (i ≤ 7) × (sum ≡ sumOf i (λ j. getD counts j 0 - 1)) × (sum ≤ 6 * i)
@@ -40,7 +35,7 @@ cast-sum : tie.Need-cast-sum Inv-loop μ-loop
 cast-sum c = search needs
 
 sub-sum : tie.Need-sub-sum Inv-loop μ-loop
-sub-sum c = some-le (count-of (c .before))
+sub-sum c = some-le _ (count-of (c .before))
 
 add-sum : tie.Need-add-sum Inv-loop μ-loop
 add-sum c = omega (arith, less-one (count-of (c .before)), fits (c .before), c .before .before .loop .inv .2)
@@ -52,14 +47,14 @@ loop-less : tie.Need-loop-less Inv-loop μ-loop
 loop-less c = search needs
 
 loop-again : tie.Need-loop-again Inv-loop μ-loop
-loop-again c = 
+loop-again c =
     let b = c .before .before in
     let e = less-one (count-of (c .before)) in
     (omega arith, rw (e, b .loop .inv .1) (sym (sum-more (b .loop .i) _)), omega (arith, e, fits (c .before), b .loop .inv .2))
 
 returns : tie.Need-returns Inv-loop μ-loop
 unfolding downCards
-returns c = 
+returns c =
     let e : c .before .loop .i ≡ 7 = omega arith in
     rw e at (c .before .loop .inv .1)
 

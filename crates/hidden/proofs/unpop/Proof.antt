@@ -1,10 +1,10 @@
 -- `hidden::unpop` meets its contract.
 -- Assumes nothing.
-use mathlib.Core.Bool.{Bool, true, false, cond}
+use mathlib.Core.Bool.{Bool, cond}
 use mathlib.Core.Path.{_≡_, refl, sym, ap, _∙_}
 use Prim.Native.Nat.{ℕ, _+_, _-_, _≤_, _<_}
 use native.Mathlib.Omega.{arith}
-use lib.ListN.{getD, set}
+use lib.ListN.{getD}
 use borrow.Author.Tests.{lt-ltb, le-ltb}
 use Rattle.rules.specs.declared.TurnedUp.the-variants.{Emptied, Card}
 use Rattle.rules.specs.Places.{pileStart}
@@ -13,9 +13,6 @@ use Rattle.hidden.proofs.Collected.{in-deal}
 use borrow.Author.Needs.{needs}
 use Rattle.hidden.proofs.unpop.Statement.{statement}
 use Rattle.hidden.proofs.unpop.Tie as tie
-use Rattle.hidden.proofs.unpop.Reads as reads
-use Rattle.hidden.proofs.unpop.Lts as lts
-use Rattle.card.proofs.pile_start.Reads as pile-start-reads
 
 -- the pile's locked places lie in the deal
 place : (c : tie.After-pile-start) → c .pile-start .result + getD (c .before .before .args .t2) (c .before .before .args .pile) 0 ≤ 52
@@ -34,7 +31,7 @@ array-write-after c = search needs
 
 returns : tie.Need-returns
 unfolding oneMore coveredIn
-returns c = 
+returns c =
     let n = getD (c .before .args .t2) (c .before .args .pile) 0 in
     (refl, sym (ap (λ (b : Bool). cond b (Card (record { 0 = placed (c .before .args .deal .now) (c .before .args .pile) (n - 1) })) Emptied) (le-ltb 0 n (omega (arith, c .if1 .taken)))))
 
@@ -58,7 +55,7 @@ element-copy-out-t11 c = omega (arith, place c)
 
 returns-2 : tie.Need-returns-2
 unfolding oneMore coveredIn
-returns-2 c = 
+returns-2 c =
     let a = c .before .before .before .args in
     let n = getD (a .t2) (a .pile) 0 in
     let s = c .before .pile-start .result in

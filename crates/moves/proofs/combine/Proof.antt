@@ -1,6 +1,5 @@
 -- `moves::combine` meets its contract.
 -- Assumes nothing.
-use mathlib.Core.Path.{_≡_}
 use Rattle.rules.specs.Moves.{maskByMask, combined}
 use Rattle.rules.proofs.Sets.{or-is}
 use Rattle.moves.proofs.Sized.{sized, each}

@@ -1,6 +1,5 @@
 -- `moves::filter` meets its contract.
 -- Assumes nothing.
-use mathlib.Core.Path.{_≡_}
 use Rattle.rules.specs.Moves.{maskByMask, filtered}
 use Rattle.rules.proofs.Sets.{minus-is}
 use Rattle.moves.proofs.Sized.{sized, each}

@@ -1,7 +1,5 @@
 -- `moves::is_empty` meets its contract.
 -- Assumes nothing.
-use mathlib.Core.Bool.{Bool, _&&_}
-use mathlib.Core.Path.{_≡_}
 use Rattle.rules.specs.Moves.{noMove}
 use Rattle.moves.proofs.Sized.{or-none}
 use Rattle.moves.proofs.is_empty.Statement.{statement}

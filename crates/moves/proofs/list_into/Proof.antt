@@ -1,6 +1,5 @@
 -- `moves::list_into` meets its contract.
 -- Assumes nothing.
-use mathlib.Core.List.{[], _++_}
 use native.Mathlib.Omega.{arith}
 use denote.Ref.{now}
 use lib.Dec.{lit≤}

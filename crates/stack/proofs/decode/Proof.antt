@@ -5,7 +5,7 @@ use mathlib.Core.List.{[], _∷_}
 use Prim.Native.Nat.{ℕ, _/_, _%_}
 use native.Mathlib.Nat.{div-one}
 use native.Mathlib.Omega.{arith}
-use lib.Bits.{bitAnd, and-mask}
+use lib.Bits.{and-mask}
 use Rattle.rules.specs.Code.{table, codeHeight}
 use Rattle.stack.proofs.decode.Statement.{statement}
 use Rattle.stack.proofs.decode.Tie as tie

@@ -1,7 +1,7 @@
 -- `stack::stackable` meets its contract.
 -- Assumes nothing.
 use native.Mathlib.Omega.{arith}
-use Rattle.rules.specs.Cards.{suit, rank}
+use Rattle.rules.specs.Cards.{rank}
 use Rattle.rules.specs.Legal.{nextOn}
 use Rattle.rules.proofs.Suits.{suit-low}
 use borrow.Author.Needs.{needs}

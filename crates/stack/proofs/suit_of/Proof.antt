@@ -1,6 +1,5 @@
 -- `stack::suit_of` meets its contract.
 -- Assumes nothing.
-use mathlib.Core.Path.{_≡_}
 use Prim.Native.Nat.{ℕ, _/_, _%_}
 use lib.Bits.{bitAnd, bitXor}
 use lib.Dec.{eqb, eqb→eq}
