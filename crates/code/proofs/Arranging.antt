@@ -12,7 +12,7 @@ use Rattle.bits.proofs.Algebra.{and-masks, or-masks, and-not-masks}
 use Rattle.bits.proofs.Tables.{table}
 use Rattle.rules.specs.declared.Position.{Position}
 use Rattle.rules.specs.Bits.{anyOf, allOf}
-use Rattle.rules.specs.Places.{count, height, cardAt, pileCard, deckCard, isBuried, hasHead, head, isHead, isVisible, isFree, isLocked, inDeck, onFoundation}
+use Rattle.rules.specs.Places.{count, height, cardAt, pileCard, deckCard, isBuried, hasHead, head, isHead, isVisible, isFree, inDeck, onFoundation}
 use Rattle.rules.specs.Proper.{pairRule, sevenRule}
 use Rattle.rules.specs.Play.{withVisible}
 use Rattle.rules.specs.Code.{workedOut}

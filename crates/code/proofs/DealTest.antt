@@ -9,7 +9,6 @@ use native.Mathlib.Omega.{arith}
 use lib.Dec.{eqb, ltb}
 use lib.ListN.{getD}
 use borrow.Author.Tests.{eq-eqb, ltb-true, ltb-false}
-use Rattle.bits.specs.Bit.{bit}
 use Rattle.bits.proofs.Laws.{bit-mask, mask-lt, bit-high}
 use Rattle.rules.specs.Bits.{anyOf, allOf}
 use Rattle.rules.specs.Proper.{areCards, areDifferent}
