@@ -10,15 +10,60 @@ fn wide(x: u8) -> u64 {
 }
 
 // Deal W: card number equals place.
-fn deal_w() -> [u8; 52] {
-    let mut w = [0u8; 52];
-    let mut k: u8 = 0;
-    while k < 52 {
-        w[k as usize] = k;
-        k += 1;
-    }
-    w
-}
+const W: [u8; 52] = [
+    0,
+    1,
+    2,
+    3,
+    4,
+    5,
+    6,
+    7,
+    8,
+    9,
+    10,
+    11,
+    12,
+    13,
+    14,
+    15,
+    16,
+    17,
+    18,
+    19,
+    20,
+    21,
+    22,
+    23,
+    24,
+    25,
+    26,
+    27,
+    28,
+    29,
+    30,
+    31,
+    32,
+    33,
+    34,
+    35,
+    36,
+    37,
+    38,
+    39,
+    40,
+    41,
+    42,
+    43,
+    44,
+    45,
+    46,
+    47,
+    48,
+    49,
+    50,
+    51,
+];
 
 fn end() {
     io::write_all(STDOUT_FILENO, b"\n");
@@ -101,7 +146,7 @@ fn moves(p: Position) {
 
 // The refusal of a code of W.
 fn refusal(code: u64) {
-    let w = deal_w();
+    let w = W;
     number(wide(engine::resume(STEP, &w, code).refusal));
 }
 
@@ -124,7 +169,7 @@ fn codes() {
 
 // P12: the game is won; the kings can come down.
 fn won() {
-    let w = deal_w();
+    let w = W;
     let p = engine::resume(STEP, &w, 0xDDDD).position;
     row(12);
     if engine::is_win(p).yes {
@@ -137,7 +182,7 @@ fn won() {
 // P13: 10 left, offset 5, step 4, here the cards 42 to 51: those at the places 3, 4, 7, 8, 9 are 45, 46, 49, 50, 51.
 // P14: offsets of fresh W.
 fn dealing(p: Position) {
-    let w = deal_w();
+    let w = W;
     row(13);
     hex(available(engine::resume(4, &w, 0x05FF_C000_0000_AABB).position));
     end();
@@ -149,7 +194,7 @@ fn dealing(p: Position) {
 }
 
 fn main() {
-    let w = deal_w();
+    let w = W;
     let p = engine::deal(STEP, &w).position;
     fresh(p);
     moves(p);
