@@ -12,10 +12,10 @@ use borrow.Author.Tests.{eq-eqb, ltb-true, ltb-false}
 use Rattle.bits.proofs.Laws.{bit-mask, mask-lt, bit-high}
 use Rattle.rules.specs.Bits.{anyOf, allOf}
 use Rattle.rules.specs.Proper.{areCards, areDifferent}
-use Rattle.rules.proofs.Searches.{all-yes, yes-all, yes-any}
-use Rattle.rules.proofs.VeilLaw.{is-false}
+use Rattle.rules.proofs.Searches.{all-yes, yes-all, yes-any, is-false}
 use Rattle.rules.specs.Hidden.{cardsFrom}
-use Rattle.proper.proofs.DealRight.{deal-is, small-of, cards-low}
+use Rattle.proper.proofs.DealRight.{deal-is, small-of}
+use Rattle.rules.proofs.DealLaw.{cards-low}
 use Rattle.proper.proofs.Sets.{cards-are}
 
 abbrev Small : List ℕ → Bool

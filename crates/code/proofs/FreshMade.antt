@@ -11,7 +11,7 @@ use Rattle.rules.specs.Bits.{maskOf}
 use Rattle.rules.specs.Places.{pileCard, cardAt, count, hasHead, head, isHead}
 use Rattle.rules.specs.Play.{slots, withVisible}
 use Rattle.rules.specs.Code.{table, freshParts, fresh}
-use Rattle.rules.proofs.VeilLaw.{getD-table}
+use Rattle.rules.proofs.Searches.{getD-table}
 use Rattle.rules.specs.Hidden.{headIn}
 
 -- "Pile i takes i+1 cards": every pile whole

@@ -18,12 +18,11 @@ use Rattle.rules.specs.Proper.{areCards}
 use Rattle.rules.specs.Foundations.{validOn, fieldOn}
 use Rattle.rules.specs.Play.{slots}
 use Rattle.rules.specs.Code.{heightField, countsField, pileField, deckField, storedOffset, code, codeHeight, codeCount, codeHas, codeLeft, codeOffset, table, deckOf, codeParts}
-use Rattle.rules.proofs.Searches.{all-ext, count-ext, list-ext, count-le}
+use Rattle.rules.proofs.Searches.{all-ext, count-ext, list-ext, count-le, getD-table}
 use Rattle.rules.proofs.ProperMade.{Numbers, any-none}
-use Rattle.rules.proofs.VeilLaw.{getD-table}
 use Rattle.rules.proofs.PileField.{table-ext, field-low}
 use Rattle.rules.proofs.Digits.{below4, has-bit, stored-fits, code-fits}
-use Rattle.proper.proofs.DealRight.{cards-low}
+use Rattle.rules.proofs.DealLaw.{cards-low}
 use Rattle.code.specs.Starts.{Ranged}
 use Rattle.code.proofs.Arranging.{all-not}
 

@@ -1,20 +1,20 @@
--- What an accepted call has passed: a move, an undo, the first four tests of a deal and of a resume.
+-- What an accepted call has passed: a move, an undo; a deal or a resume by `Dealt` of rules.
 -- Assumes nothing.
-use mathlib.Core.Bool.{true, not}
+use mathlib.Core.Bool.{true}
 use mathlib.Core.Path.{_≡_}
 use mathlib.Core.List.{List}
 use Prim.Native.Nat.{ℕ, _≤_, _<_}
 use native.Mathlib.Omega.{arith}
 use lib.Dec.{eqb, ltb, leb}
 use lib.ListN.{length}
-use borrow.Author.Tests.{eqb-true, eqb-false, ltb-false, leb-true}
+use borrow.Author.Tests.{eqb-false, ltb-false, leb-true}
 use Rattle.rules.specs.declared.Position.{Position}
-use Rattle.rules.specs.Proper.{areCards, areDifferent, stepRight, proper}
+use Rattle.rules.specs.Proper.{proper}
 use Rattle.rules.specs.Legal.{legal}
 use Rattle.rules.specs.History.{isKindAndCard, undoable}
-use Rattle.rules.specs.Answers.{_refuses_else_, moveRefusal, lastEntry, undoRefusal}
+use Rattle.rules.specs.Answers.{moveRefusal, lastEntry, undoRefusal}
 use Rattle.rules.proofs.Searches.{and-left, and-right}
-use Rattle.laws.proofs.Refusing.{goes-on, goes-well}
+use Rattle.rules.proofs.Refusing.{Dealt, goes-on, goes-well}
 
 -- a kind and a card of a move
 pub kind-ok : (kind c : ℕ) → isKindAndCard kind c ≡ true → kind < 5
@@ -25,29 +25,9 @@ pub card-ok : (kind c : ℕ) → isKindAndCard kind c ≡ true → c < 52
 unfolding isKindAndCard
 card-ok kind c t = omega (arith, leb-true c 51 (and-right (leb kind 4) (leb c 51) t))
 
--- a deal of 52 different cards
-pub record Right (d : List ℕ) : Type 0 where
-  pub long : length d ≡ 52
-  pub cards : areCards d ≡ true
-  pub different : areDifferent d ≡ true
-
--- the tests of a deal, which are a resume's first four; and what comes after them
-abbrev Dealt : List ℕ → ℕ → ℕ → ℕ
-Dealt d step x = not (stepRight step) refuses 1 else not (eqb (length d) 52) refuses 2 else not (areCards d) refuses 3 else not (areDifferent d) refuses 4 else x
-
-passed : (d : List ℕ) (step x : ℕ) → Dealt d step x ≡ 0 → (stepRight step ≡ true) × Right d × (x ≡ 0)
-passed d step x h =
-    let g1 = goes-well (stepRight step) 1 _ (omega arith) h in
-    let g2 = goes-well (eqb (length d) 52) 2 _ (omega arith) (g1 .1) in
-    let g3 = goes-well (areCards d) 3 _ (omega arith) (g2 .1) in
-    let g4 = goes-well (areDifferent d) 4 _ (omega arith) (g3 .1) in
-    (g1 .0, record { long = eqb-true (length d) 52 (g2 .0); cards = g3 .0; different = g4 .0 }, g4 .1)
-
-pub four : (d : List ℕ) (step x : ℕ) → Dealt d step x ≡ 0 → (stepRight step ≡ true) × Right d
-four d step x h = (passed d step x h .0, passed d step x h .1)
-
-pub after-four : (d : List ℕ) (step x : ℕ) → Dealt d step x ≡ 0 → x ≡ 0
-after-four d step x h = passed d step x h .2
+-- a deal of 52 different cards, with some step
+abbrev pub Right : List ℕ → Type 0
+Right d = (step : ℕ) × Dealt d step
 
 -- a move
 pub record MoveAllowed (p : Position) (history : List ℕ) (n kind c : ℕ) : Type 0 where

@@ -8,6 +8,7 @@ use Prim.Native.Nat.{ℕ, _+_, _*_, _≤_, _<_, _^_}
 use lib.Dec.{T}
 use lib.ListN.{length, take}
 use Rattle.rules.specs.declared.Position.{Position}
+use Rattle.rules.specs.declared.Undone.{Undone}
 use Rattle.rules.specs.Bits.{num, times}
 use Rattle.rules.specs.Places.{isVisible}
 use Rattle.rules.specs.Proper.{proper, Shaped}
@@ -30,14 +31,18 @@ MovesKeepProper =
     (p : Position) (kind c : ℕ) → Shaped p → T (proper p) → T (isKindAndCard kind c) → T (legal p kind c)
     → Shaped (after p kind c) × T (proper (after p kind c))
 
--- "Undo takes the last, lowers the count": after an accepted move, with the history and the count that it gave, undo is not refused, and gives back
--- the count and every field that counts
+-- undo straight after a move, with the history and the count that it gave
+abbrev pub undoneMove : Position → List ℕ → ℕ → ℕ → ℕ → Undone
+undoneMove p history n kind c =
+    undoAnswer (moveAnswer p history n kind c .position) (moveHistory p history n kind c) (moveAnswer p history n kind c .count)
+
+-- "Undo takes the last, lowers the count": after an accepted move it is not refused, and gives back the count and every field that counts
 abbrev pub UndoAfterMove : Type 0
 UndoAfterMove =
     (p : Position) (history : List ℕ) (n kind c : ℕ) → Shaped p → moveAnswer p history n kind c .refusal ≡ 0
-    → (undoAnswer (moveAnswer p history n kind c .position) (moveHistory p history n kind c) (moveAnswer p history n kind c .count) .refusal ≡ 0)
-    × (undoAnswer (moveAnswer p history n kind c .position) (moveHistory p history n kind c) (moveAnswer p history n kind c .count) .count ≡ n)
-    × T (samePosition (undoAnswer (moveAnswer p history n kind c .position) (moveHistory p history n kind c) (moveAnswer p history n kind c .count) .position) p)
+    → (undoneMove p history n kind c .refusal ≡ 0)
+    × (undoneMove p history n kind c .count ≡ n)
+    × T (samePosition (undoneMove p history n kind c .position) p)
 
 -- "An entry is byte·512 + kind·64 + card", in a slice of 16-bit numbers
 abbrev pub EntriesFit : Type 0

@@ -11,8 +11,7 @@ use lib.Seq.{length-take-le, getD-take, ext-getD}
 use Rattle.rules.specs.declared.Position.{Position}
 use Rattle.rules.specs.Bits.{sameList}
 use Rattle.rules.specs.History.{samePosition}
-use Rattle.rules.proofs.Searches.{same-list, list-same}
-use Rattle.rules.proofs.VeilLaw.{is-false}
+use Rattle.rules.proofs.Searches.{same-list, list-same, is-false}
 use Rattle.play.specs.Made.{sameDeck, sameInDeal}
 
 module _ (a b : List ℕ) (n : ℕ) (la : n ≤ length a) (lb : n ≤ length b) where

@@ -17,11 +17,10 @@ use Rattle.rules.specs.Proper.{proper}
 use Rattle.rules.specs.Legal.{legal, revealLegal, hasRoom}
 use Rattle.rules.specs.History.{entryByte, entryKind, entryCard, isKindAndCard, samePosition, stepBack, undoable}
 use Rattle.rules.specs.Play.{lowered, shown, hidden, putBack, turnedBack, withDeck, withHeights, withVisible, before, after, undoByte}
-use Rattle.rules.proofs.Searches.{and-left, and-both, first-least}
-use Rattle.rules.proofs.VeilLaw.{is-false}
-use Rattle.laws.proofs.Facts.{Facts, facts}
+use Rattle.rules.proofs.Searches.{and-left, and-both, first-least, is-false}
+use Rattle.rules.proofs.Facts.{Facts, facts-of as facts}
 use Rattle.laws.proofs.Piles.{pileOf-deal}
-use Rattle.laws.proofs.Placed.{HeadOf, head-of}
+use Rattle.rules.proofs.Placed.{HeadOf, head-of}
 use Rattle.laws.proofs.TurnedBack.{back-stays}
 use Rattle.laws.proofs.UndoTest.{passes}
 use Rattle.play.specs.declared.Back.{Back}

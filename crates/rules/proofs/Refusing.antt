@@ -46,13 +46,20 @@ pub record Dealt (d : List ℕ) (step : ℕ) : Type 0 where
   pub cards : areCards d ≡ true
   pub different : areDifferent d ≡ true
 
-pub four-passed : (d : List ℕ) (step x : ℕ) → firstFour d step x ≡ 0 → Dealt d step
-four-passed d step x h =
+passed : (d : List ℕ) (step x : ℕ) → firstFour d step x ≡ 0 → Dealt d step × (x ≡ 0)
+passed d step x h =
     let g1 = goes-well (stepRight step) wrongStep _ (omega arith) h in
     let g2 = goes-well (eqb (length d) 52) wrongLength _ (omega arith) (g1 .1) in
     let g3 = goes-well (areCards d) noCard _ (omega arith) (g2 .1) in
     let g4 = goes-well (areDifferent d) sameCard _ (omega arith) (g3 .1) in
-    record { fair = g1 .0; long = eqb-true (length d) 52 (g2 .0); cards = g3 .0; different = g4 .0 }
+    (record { fair = g1 .0; long = eqb-true (length d) 52 (g2 .0); cards = g3 .0; different = g4 .0 }, g4 .1)
+
+pub four-passed : (d : List ℕ) (step x : ℕ) → firstFour d step x ≡ 0 → Dealt d step
+four-passed d step x h = passed d step x h .0
+
+-- and the rest refuses nothing
+pub four-rest : (d : List ℕ) (step x : ℕ) → firstFour d step x ≡ 0 → x ≡ 0
+four-rest d step x h = passed d step x h .1
 
 pub deal-passed : (d : List ℕ) (step : ℕ) → dealRefusal d step ≡ 0 → Dealt d step
 unfolding dealRefusal

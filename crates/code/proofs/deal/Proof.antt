@@ -9,7 +9,7 @@ use lib.ListN.{getD}
 use Rattle.rules.specs.Code.{fresh}
 use Rattle.rules.specs.Answers.{dealRefusal, dealAnswer}
 use Rattle.rules.proofs.Refusing.{Dealt, deal-passed}
-use Rattle.proper.proofs.DealRight.{cards-low}
+use Rattle.rules.proofs.DealLaw.{cards-low}
 use Rattle.code.proofs.Answered.{is-refused, is-started}
 use Rattle.code.proofs.deal.Statement.{statement}
 use Rattle.code.proofs.deal.Tie as tie

@@ -11,7 +11,7 @@ use borrow.Author.Tests.{eq-eqb, ne-eqb, not-true, not-false}
 use Rattle.rules.specs.Bits.{allOf}
 use Rattle.rules.specs.Proper.{areCards, areDifferent, stepRight}
 use Rattle.rules.proofs.ProperMade.{step-low, step-high, step-right}
-use Rattle.rules.proofs.VeilLaw.{is-false}
+use Rattle.rules.proofs.Searches.{is-false}
 use Rattle.code.proofs.DealTest.{not-small, not-filled, filled-cards, different-is}
 use Rattle.rules.proofs.Refusing.{deal-tests}
 use Rattle.code.proofs.deal_refusal.Statement.{statement}
