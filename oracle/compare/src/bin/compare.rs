@@ -2,6 +2,8 @@
 //!   play        COUNT games of random moves, steps 1 to 24 in turn, each played back to its start by undo
 //!   positions   COUNT proper positions that play need not reach
 //!   refusals    COUNT positions with a number or two spoilt, and COUNT wrong deals
+//!   bytes       COUNT positions of any bytes, COUNT proper ones with one byte changed and COUNT with one bit changed
+//!   limits      COUNT positions; buffers, histories, deals and numbers of every size around their limits
 //!   codes       COUNT codes to resume, right and wrong
 //!   dealing     every step, length, offset and n (COUNT and SEED are not used)
 //!   entries     COUNT positions, all 65,536 entries on each: the model's undo against a blind search
@@ -85,6 +87,20 @@ fn refusals(walk: &mut Walk, count: u64) {
         walk.ask(Call::Deal { deal: deal.clone(), step: q.step });
         let code = make::some_code(&mut walk.rng, &p);
         walk.ask(Call::Resume { deal, step: q.step, code });
+    }
+}
+
+fn bytes(walk: &mut Walk, count: u64) {
+    for _ in 0..count {
+        walk.bytes();
+    }
+}
+
+fn limits(walk: &mut Walk, count: u64) {
+    for i in 0..count {
+        let p = make::proper_position(&mut walk.rng);
+        let p = if i % 8 == 7 { make::byte_changed(&mut walk.rng, &p) } else { p };
+        walk.limits(&p);
     }
 }
 
@@ -184,6 +200,8 @@ fn main() {
         Some("play") => play(&mut walk, count),
         Some("positions") => positions(&mut walk, count),
         Some("refusals") => refusals(&mut walk, count),
+        Some("bytes") => bytes(&mut walk, count),
+        Some("limits") => limits(&mut walk, count),
         Some("codes") => codes(&mut walk, count),
         Some("dealing") => dealing(&mut walk),
         Some("entries") => entries(&mut walk, count),
@@ -191,12 +209,14 @@ fn main() {
             play(&mut walk, count);
             positions(&mut walk, 100 * count);
             refusals(&mut walk, 100 * count);
+            bytes(&mut walk, 100 * count);
+            limits(&mut walk, 10 * count);
             codes(&mut walk, 1000 * count);
             dealing(&mut walk);
             entries(&mut walk, count / 10);
         }
         _ => {
-            eprintln!("compare play|positions|refusals|codes|dealing|entries|all [COUNT] [SEED]");
+            eprintln!("compare play|positions|refusals|bytes|limits|codes|dealing|entries|all [COUNT] [SEED]");
             std::process::exit(2);
         }
     }

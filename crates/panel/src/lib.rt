@@ -1,0 +1,102 @@
+// The public calls for C and Rust: include/gravyhelm.h declares them. Each is the engine's call of the same name, with the same answer on every input.
+// Positions, cursors and answers go by value, as plain data of which nothing is trusted. A slice is a pointer and a length. A yes or no that is given is a byte: 0 is no.
+// `list` hands back the front of the buffer itself, and no part of a slice can be an answer in C: `gravyhelm_list_into` gives how many slots are that front.
+ghost use mathlib.Core.Path.{_≡_};
+ghost use lib.ListN.{length};
+ghost use Rattle.rules.specs.Answers.{masksAnswer, testAnswer, listingAnswer, listingInto, winAnswer, sureWinAnswer, heightsAnswer, deckAnswer, findAnswer, offsetAnswer, pilesAnswer, pilesBuffer, cursorRefusal, dealOnceAnswer};
+ghost use Rattle.panel.specs.Crossing.{asked};
+use rules::Cursor;
+use rules::DeckView;
+use rules::Heights;
+use rules::Listed;
+use rules::Located;
+use rules::Masked;
+use rules::Offset;
+use rules::Piled;
+use rules::Position;
+use rules::Told;
+use rules::Turned;
+
+#[no_mangle]
+pub extern "C" fn gravyhelm_masks(p: Position, pruned: u8) -> Masked
+    ensures { λ r. ⌜ r ≡ masksAnswer (asked pruned) p ⌝ }
+{
+    engine::masks(p, pruned != 0)
+}
+
+#[no_mangle]
+pub extern "C" fn gravyhelm_test(p: Position, kind: u8, card: u8) -> Told
+    ensures { λ r. ⌜ r ≡ testAnswer p kind card ⌝ }
+{
+    engine::test(p, kind, card)
+}
+
+#[no_mangle]
+pub extern "C" fn gravyhelm_list_into(p: Position, pruned: u8, out: &mut [u16]) -> Listed
+    ensures { λ r. ⌜ (r ≡ listingAnswer (asked pruned) p (length (now (out .entry)))) × (now (out .exit) ≡ listingInto (asked pruned) p (now (out .entry))) ⌝ }
+{
+    engine::list_into(p, pruned != 0, out)
+}
+
+#[no_mangle]
+pub extern "C" fn gravyhelm_list_count(p: Position, pruned: u8, room: usize) -> Listed
+    ensures { λ r. ⌜ r ≡ listingAnswer (asked pruned) p room ⌝ }
+{
+    engine::list_count(p, pruned != 0, room)
+}
+
+#[no_mangle]
+pub extern "C" fn gravyhelm_is_win(p: Position) -> Told
+    ensures { λ r. ⌜ r ≡ winAnswer p ⌝ }
+{
+    engine::is_win(p)
+}
+
+#[no_mangle]
+pub extern "C" fn gravyhelm_is_sure_win(p: Position) -> Told
+    ensures { λ r. ⌜ r ≡ sureWinAnswer p ⌝ }
+{
+    engine::is_sure_win(p)
+}
+
+#[no_mangle]
+pub extern "C" fn gravyhelm_heights(p: Position) -> Heights
+    ensures { λ r. ⌜ r ≡ heightsAnswer p ⌝ }
+{
+    engine::heights(p)
+}
+
+#[no_mangle]
+pub extern "C" fn gravyhelm_deck(p: Position) -> DeckView
+    ensures { λ r. ⌜ r ≡ deckAnswer p ⌝ }
+{
+    engine::deck(p)
+}
+
+#[no_mangle]
+pub extern "C" fn gravyhelm_find(p: Position, card: u8) -> Located
+    ensures { λ r. ⌜ r ≡ findAnswer p card ⌝ }
+{
+    engine::find(p, card)
+}
+
+#[no_mangle]
+pub extern "C" fn gravyhelm_offset(p: Position, n: u8) -> Offset
+    ensures { λ r. ⌜ r ≡ offsetAnswer p n ⌝ }
+{
+    engine::offset(p, n)
+}
+
+#[no_mangle]
+pub extern "C" fn gravyhelm_piles(p: Position, out: &mut [u8]) -> Piled
+    ensures { λ r. ⌜ (r ≡ pilesAnswer p (length (now (out .entry)))) × (now (out .exit) ≡ pilesBuffer p (now (out .entry))) ⌝ }
+{
+    engine::piles(p, out)
+}
+
+#[no_mangle]
+pub extern "C" fn gravyhelm_deal_once(c: Cursor) -> Turned
+    ensures { λ r. ⌜ r ≡ dealOnceAnswer c ⌝ }
+{
+    deck::deal_once(c)
+}
