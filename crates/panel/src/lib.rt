@@ -3,7 +3,7 @@
 // `list` hands back the front of the buffer itself, and no part of a slice can be an answer in C: `gravyhelm_list_into` gives how many slots are that front.
 ghost use mathlib.Core.Path.{_≡_};
 ghost use lib.ListN.{length};
-ghost use Rattle.rules.specs.Answers.{masksAnswer, testAnswer, listingAnswer, listingInto, winAnswer, sureWinAnswer, heightsAnswer, deckAnswer, findAnswer, offsetAnswer, pilesAnswer, pilesBuffer, cursorRefusal, dealOnceAnswer};
+ghost use Rattle.rules.specs.Answers.{dealAnswer, resumeAnswer, saveAnswer, masksAnswer, testAnswer, listingAnswer, listingInto, winAnswer, sureWinAnswer, heightsAnswer, deckAnswer, findAnswer, offsetAnswer, pilesAnswer, pilesBuffer, cursorRefusal, dealOnceAnswer};
 ghost use Rattle.panel.specs.Crossing.{asked};
 use rules::Cursor;
 use rules::DeckView;
@@ -14,8 +14,31 @@ use rules::Masked;
 use rules::Offset;
 use rules::Piled;
 use rules::Position;
+use rules::Saved;
+use rules::Started;
 use rules::Told;
 use rules::Turned;
+
+#[no_mangle]
+pub extern "C" fn gravyhelm_deal(step: u8, cards: &[u8]) -> Started
+    ensures { λ r. ⌜ r ≡ dealAnswer (now (cards .entry)) step ⌝ }
+{
+    engine::deal(step, cards)
+}
+
+#[no_mangle]
+pub extern "C" fn gravyhelm_resume(step: u8, cards: &[u8], code: u64) -> Started
+    ensures { λ r. ⌜ r ≡ resumeAnswer (now (cards .entry)) step code ⌝ }
+{
+    engine::resume(step, cards, code)
+}
+
+#[no_mangle]
+pub extern "C" fn gravyhelm_save(p: Position) -> Saved
+    ensures { λ r. ⌜ r ≡ saveAnswer p ⌝ }
+{
+    engine::save(p)
+}
 
 #[no_mangle]
 pub extern "C" fn gravyhelm_masks(p: Position, pruned: u8) -> Masked
