@@ -4,5 +4,5 @@ use Prim.Native.Nat.{ℕ}
 use lib.Dec.{eqb}
 
 -- a yes or no that is given as a byte: 0 is no, every other number yes
-unfoldable pub asked : ℕ → Bool
+abbrev pub asked : ℕ → Bool
 asked n = not (eqb n 0)
