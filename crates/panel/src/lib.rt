@@ -123,3 +123,13 @@ pub extern "C" fn gravyhelm_deal_once(c: Cursor) -> Turned
 {
     deck::deal_once(c)
 }
+
+// The deal on a lent cursor is `deck::deal_once_lent` line by line, so that its proof serves.
+#[no_mangle]
+pub extern "C" fn gravyhelm_deal_once_lent(c: &mut Cursor) -> u8
+    ensures { λ r. ⌜ (r ≡ cursorRefusal (now (c .entry))) × (now (c .exit) ≡ dealOnceAnswer (now (c .entry)) .cursor) ⌝ }
+{
+    let got = deck::deal_once(*c);
+    *c = got.cursor;
+    got.refusal
+}
