@@ -28,7 +28,7 @@ static void print_moves(gravyhelm_position p, uint8_t pruned) {
 
 /* Makes a move and prints it; gives the position after it. */
 static gravyhelm_position make(gravyhelm_position p, uint16_t *history, size_t length, size_t *count, uint8_t kind, uint8_t card) {
-    gravyhelm_moved m = gravyhelm_move(p, history, length, *count, kind, card);
+    gravyhelm_moved m = gravyhelm_do_move(p, history, length, *count, kind, card);
     printf("%s %d: refusal %d, count %zu, byte %d, turned up %d %d\n", kinds[kind], card, m.refusal, m.count, m.byte, m.turned.kind, m.turned.card);
     if (m.refusal == 0)
         printf("entry %d, code %016" PRIx64 "\n", history[m.count - 1], gravyhelm_save(m.position).code);
@@ -57,14 +57,14 @@ int main(void) {
     print_piles(p);
 
     while (count > 0) {
-        gravyhelm_undone undone = gravyhelm_undo(p, history, 3, count);
+        gravyhelm_undone undone = gravyhelm_undo_move(p, history, 3, count);
         printf("undo: refusal %d, count %zu, code %016" PRIx64 "\n", undone.refusal, undone.count, gravyhelm_save(undone.position).code);
         if (undone.refusal != 0)
             return 1;
         p = undone.position;
         count = undone.count;
     }
-    printf("undo: refusal %d\n", gravyhelm_undo(p, history, 3, count).refusal);
+    printf("undo: refusal %d\n", gravyhelm_undo_move(p, history, 3, count).refusal);
 
     p = make(p, history, 3, &count, GRAVYHELM_REVEAL, 5);
     print_piles(p);

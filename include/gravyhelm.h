@@ -143,10 +143,10 @@ gravyhelm_listed gravyhelm_list_count(gravyhelm_position p, uint8_t pruned, size
 
 /* Makes a move, and writes its entry at slot `count`; no other slot is written. `byte` is the undo byte. Refuses 16, 14 (count > length), 10, 11, 12 (count == length):
  * then position and count are those given, and no slot is written. */
-gravyhelm_moved gravyhelm_move(gravyhelm_position p, uint16_t *history, size_t length, size_t count, uint8_t kind, uint8_t card);
+gravyhelm_moved gravyhelm_do_move(gravyhelm_position p, uint16_t *history, size_t length, size_t count, uint8_t kind, uint8_t card);
 
 /* Undoes the last entry, and lowers the count. Only reads the history. Refuses 16, 14 (count > length), 13 (count == 0), 15: then position and count are those given. */
-gravyhelm_undone gravyhelm_undo(gravyhelm_position p, const uint16_t *history, size_t length, size_t count);
+gravyhelm_undone gravyhelm_undo_move(gravyhelm_position p, const uint16_t *history, size_t length, size_t count);
 
 /* ---- Questions */
 

@@ -62,7 +62,7 @@ static gravyhelm_position some_position(void) {
     uint16_t slot;
     if (n > 0) {
         uint16_t m = moves[below(n)];
-        gravyhelm_moved made = gravyhelm_move(kept, &slot, 1, 0, (uint8_t)(m / 64), m % 64);
+        gravyhelm_moved made = gravyhelm_do_move(kept, &slot, 1, 0, (uint8_t)(m / 64), m % 64);
         MUST(made.refusal == 0);
         kept = made.position;
     }
@@ -125,15 +125,15 @@ static void lent_calls(gravyhelm_position p, uint8_t a, uint8_t b) {
     slots = below(4);
     lent = (uint16_t *)(void *)end_of_page - slots;
     size_t count = below(8) == 0 ? random64() : below(slots + 2);
-    gravyhelm_moved moved = gravyhelm_move(p, lent, slots, count, b % 8, a % 64);
+    gravyhelm_moved moved = gravyhelm_do_move(p, lent, slots, count, b % 8, a % 64);
     if (moved.refusal != 0) {
         MUST(memcmp(before, end_of_page - sizeof before, sizeof before) == 0 && moved.count == count && alike(&moved.position, &p));
     } else {
         MUST(gravyhelm_save(moved.position).refusal == 0 && moved.count == count + 1);
-        gravyhelm_undone back = gravyhelm_undo(moved.position, lent, slots, moved.count);
+        gravyhelm_undone back = gravyhelm_undo_move(moved.position, lent, slots, moved.count);
         MUST(back.refusal == 0 && back.count == count && gravyhelm_ladder(back.position, p).same && back.position.offset == p.offset);
     }
-    gravyhelm_undone undone = gravyhelm_undo(p, lent, slots, count);
+    gravyhelm_undone undone = gravyhelm_undo_move(p, lent, slots, count);
     MUST(undone.refusal == 0 ? undone.count + 1 == count : undone.count == count && alike(&undone.position, &p));
     calls += 6;
 }

@@ -113,7 +113,7 @@ impl Engine for Ours {
         Some(Moved { refusal: m.refusal, position: of(&m.position), count: m.count, byte: m.byte, turned })
     }
     fn undo(&mut self, p: &Position, history: &mut [u16], count: usize) -> Option<Undone> {
-        let u = guarded(history, 0xA5C3, |history| g::undo(to(p), history, count));
+        let u = guarded(history, 0xA5C3, |history| g::undo_move(to(p), history, count));
         Some(Undone { refusal: u.refusal, position: of(&u.position), count: u.count })
     }
     fn ladder(&mut self, p: &Position, q: &Position) -> Option<Ranked> {

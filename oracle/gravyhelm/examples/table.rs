@@ -56,14 +56,14 @@ fn main() {
     print_piles(p);
 
     while count > 0 {
-        let undone = gravyhelm::undo(p, &history, count);
+        let undone = gravyhelm::undo_move(p, &history, count);
         let code = gravyhelm::save(undone.position).code;
         println!("undo: refusal {}, count {}, code {code:016x}", undone.refusal, undone.count);
         assert_eq!(undone.refusal, 0);
         p = undone.position;
         count = undone.count;
     }
-    println!("undo: refusal {}", gravyhelm::undo(p, &history, count).refusal);
+    println!("undo: refusal {}", gravyhelm::undo_move(p, &history, count).refusal);
 
     p = make(p, &mut history, &mut count, kind::REVEAL, 5);
     print_piles(p);

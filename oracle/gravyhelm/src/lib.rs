@@ -121,7 +121,7 @@ pub fn piles(p: Position, out: &mut [u8]) -> Piled {
 
 /// Makes a move and writes its entry at the count.
 pub fn do_move(p: Position, history: &mut [u16], count: usize, kind: u8, card: u8) -> Moved {
-    let m = unsafe { gravyhelm_move(p, history.as_mut_ptr(), history.len(), count, kind, card) };
+    let m = unsafe { gravyhelm_do_move(p, history.as_mut_ptr(), history.len(), count, kind, card) };
     let turned = match m.kind {
         0 => TurnedUp::Nothing,
         1 => TurnedUp::Emptied,
@@ -131,8 +131,8 @@ pub fn do_move(p: Position, history: &mut [u16], count: usize, kind: u8, card: u
 }
 
 /// Undoes the last move of the history.
-pub fn undo(p: Position, history: &[u16], count: usize) -> Undone {
-    unsafe { gravyhelm_undo(p, history.as_ptr(), history.len(), count) }
+pub fn undo_move(p: Position, history: &[u16], count: usize) -> Undone {
+    unsafe { gravyhelm_undo_move(p, history.as_ptr(), history.len(), count) }
 }
 
 /// Whether two positions are the same on the ladder.
