@@ -3,8 +3,8 @@
 // `list` hands back the front of the buffer itself, and no part of a slice can be an answer in C: `gravyhelm_list_into` gives how many slots are that front.
 ghost use mathlib.Core.Path.{_≡_};
 ghost use lib.ListN.{length};
-ghost use Rattle.rules.specs.Answers.{dealAnswer, resumeAnswer, saveAnswer, masksAnswer, testAnswer, listingAnswer, listingInto, winAnswer, sureWinAnswer, heightsAnswer, deckAnswer, findAnswer, offsetAnswer, pilesAnswer, pilesBuffer, cursorRefusal, dealOnceAnswer};
-ghost use Rattle.panel.specs.Crossing.{asked};
+ghost use Rattle.rules.specs.Answers.{dealAnswer, resumeAnswer, saveAnswer, moveAnswer, moveHistory, undoAnswer, masksAnswer, testAnswer, listingAnswer, listingInto, winAnswer, sureWinAnswer, heightsAnswer, deckAnswer, findAnswer, offsetAnswer, pilesAnswer, pilesBuffer, cursorRefusal, dealOnceAnswer};
+ghost use Rattle.panel.specs.Crossing.{asked, numbersOf, movedNumbers};
 use rules::Cursor;
 use rules::DeckView;
 use rules::Heights;
@@ -18,6 +18,43 @@ use rules::Saved;
 use rules::Started;
 use rules::Told;
 use rules::Turned;
+use rules::TurnedUp;
+use rules::Undone;
+
+// A move's answer as it crosses: what was turned up is its case and its card.
+#[repr(C)]
+pub struct TurnedNumbers {
+    pub kind: u8,
+    pub card: u8,
+}
+
+#[repr(C)]
+pub struct MovedNumbers {
+    pub refusal: u8,
+    pub position: Position,
+    pub count: usize,
+    pub byte: u8,
+    pub turned: TurnedNumbers,
+}
+
+fn numbers(turned: TurnedUp) -> TurnedNumbers
+    ensures { λ r. ⌜ r ≡ numbersOf turned ⌝ }
+{
+    match turned {
+        TurnedUp::Nothing => TurnedNumbers {
+            kind: 0,
+            card: 0,
+        },
+        TurnedUp::Emptied => TurnedNumbers {
+            kind: 1,
+            card: 0,
+        },
+        TurnedUp::Card(c) => TurnedNumbers {
+            kind: 2,
+            card: c.0,
+        },
+    }
+}
 
 #[no_mangle]
 pub extern "C" fn gravyhelm_deal(step: u8, cards: &[u8]) -> Started
@@ -66,6 +103,29 @@ pub extern "C" fn gravyhelm_list_count(p: Position, pruned: u8, room: usize) -> 
     ensures { λ r. ⌜ r ≡ listingAnswer (asked pruned) p room ⌝ }
 {
     engine::list_count(p, pruned != 0, room)
+}
+
+#[no_mangle]
+pub extern "C" fn gravyhelm_do_move(p: Position, history: &mut [u16], count: usize, kind: u8, card: u8) -> MovedNumbers
+    ensures { λ r. ⌜ (r ≡ movedNumbers (moveAnswer p (now (history .entry)) count kind card)) × (now (history .exit) ≡ moveHistory p (now (history .entry)) count kind card) ⌝ }
+{
+    let m = engine::history::do_move(p, history, count, kind, card);
+    let position = m.position;
+    let turned = m.turned;
+    MovedNumbers {
+        refusal: m.refusal,
+        position: position,
+        count: m.count,
+        byte: m.byte,
+        turned: numbers(turned),
+    }
+}
+
+#[no_mangle]
+pub extern "C" fn gravyhelm_undo_move(p: Position, history: &[u16], count: usize) -> Undone
+    ensures { λ r. ⌜ r ≡ undoAnswer p (now (history .entry)) count ⌝ }
+{
+    engine::history::undo_move(p, history, count)
 }
 
 #[no_mangle]

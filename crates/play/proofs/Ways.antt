@@ -58,9 +58,9 @@ module _ (p r : Position) (c : ℕ) (d : r .deal ≡ p .deal) (n : r .counts ≡
       let low : count p i ≤ i = omega (arith, f .numbers .counts i l) in
       let at : count q i - 1 ≡ count p i = omega arith in
       let card : getD (p .deal) (pileStart i + count p i) 0 ≡ c =
-          ap₂ (λ (l : List ℕ) (k : ℕ). getD l (pileStart i + k) 0) (sym deal) (sym at) ∙ subst (λ (j : ℕ). pileCard q j (count q j - 1) ≡ c) pile (w .is) in
+      ap₂ (λ (l : List ℕ) (k : ℕ). getD l (pileStart i + k) 0) (sym deal) (sym at) ∙ subst (λ (j : ℕ). pileCard q j (count q j - 1) ≡ c) pile (w .is) in
       let first : firstOf 7 (λ j. bareOf (p .deal) (p .counts) c j) ≤ i =
-          first-least 7 (λ j. bareOf (p .deal) (p .counts) c j) i l (and-both (leb (getD (p .counts) i 0) i) (eqb (getD (p .deal) (pileStart i + getD (p .counts) i 0) 0) c) (le-leb (getD (p .counts) i 0) i low) (eq-eqb (getD (p .deal) (pileStart i + getD (p .counts) i 0) 0) c card)) in
+      first-least 7 (λ j. bareOf (p .deal) (p .counts) c j) i l (and-both (leb (getD (p .counts) i 0) i) (eqb (getD (p .deal) (pileStart i + getD (p .counts) i 0) 0) c) (le-leb (getD (p .counts) i 0) i low) (eq-eqb (getD (p .deal) (pileStart i + getD (p .counts) i 0) 0) c card)) in
       lt-ltb (firstOf 7 (λ j. bareOf (p .deal) (p .counts) c j)) 7 (omega arith)
 
 -- ---- each kind
@@ -141,3 +141,16 @@ module _ (p : Position) (e : ℕ) where
   pub some-is : undoable p e ≡ true → record { possible = true; position = back } ≡ undone p e
   unfolding undone stepBack
   some-is h = rw h refl
+
+  -- the answer's two parts
+  pub possible-is : undone p e .possible ≡ undoable p e
+  unfolding undone
+  possible-is = go (undoable p e)
+    where
+      go : (b : Bool) → cond {A = Back} b (record { possible = true; position = stepBack p e }) (record { possible = false; position = p }) .possible ≡ b
+      go true = refl
+      go false = refl
+
+  pub position-is : undoable p e ≡ true → undone p e .position ≡ stepBack p e
+  unfolding undone
+  position-is h = rw h refl

@@ -1,8 +1,8 @@
 // Making a move and going back over one: the work behind the engine's move and undo.
-mod parts;
-mod make;
-mod unmake;
 mod entries;
+mod make;
+mod parts;
+mod unmake;
 
 pub use entries::entry;
 pub use entries::undo;

@@ -9,8 +9,8 @@ ghost use Rattle.rules.specs.Hidden.{CountsFit, headPile, barePile};
 ghost use Rattle.rules.specs.Play.{raised, lowered, shown, hidden, drawn, putBack, turnedBack};
 ghost use Rattle.rules.proofs.HiddenLaw.{upTurned, upHidden};
 ghost use Rattle.play.specs.Made.{turnedAt};
-use card::Card;
 use crate::Made;
+use card::Card;
 use rules::Position;
 use rules::TurnedUp;
 
