@@ -5,7 +5,7 @@ use lib.Dec.{eqb}
 use lib.ListN.{getD}
 use Rattle.rules.specs.declared.Moved.{Moved}
 use Rattle.rules.specs.declared.TurnedUp.{TurnedUp}
-use Rattle.rules.specs.Secrecy.{turnedNumbers}
+use Rattle.rules.specs.Play.{turnedNumbers}
 use Rattle.panel.specs.declared.TurnedNumbers.{TurnedNumbers}
 use Rattle.panel.specs.declared.MovedNumbers.{MovedNumbers}
 

@@ -109,7 +109,7 @@ pub extern "C" fn gravyhelm_list_count(p: Position, pruned: u8, room: usize) -> 
 pub extern "C" fn gravyhelm_do_move(p: Position, history: &mut [u16], count: usize, kind: u8, card: u8) -> MovedNumbers
     ensures { λ r. ⌜ (r ≡ movedNumbers (moveAnswer p (now (history .entry)) count kind card)) × (now (history .exit) ≡ moveHistory p (now (history .entry)) count kind card) ⌝ }
 {
-    let m = engine::history::do_move(p, history, count, kind, card);
+    let m = engine::do_move(p, history, count, kind, card);
     let position = m.position;
     let turned = m.turned;
     MovedNumbers {
@@ -125,7 +125,7 @@ pub extern "C" fn gravyhelm_do_move(p: Position, history: &mut [u16], count: usi
 pub extern "C" fn gravyhelm_undo_move(p: Position, history: &[u16], count: usize) -> Undone
     ensures { λ r. ⌜ r ≡ undoAnswer p (now (history .entry)) count ⌝ }
 {
-    engine::history::undo_move(p, history, count)
+    engine::undo_move(p, history, count)
 }
 
 #[no_mangle]

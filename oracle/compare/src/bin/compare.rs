@@ -6,8 +6,9 @@
 //!   limits      COUNT positions; buffers, histories, deals and numbers of every size around their limits
 //!   codes       COUNT codes to resume, right and wrong
 //!   dealing     every step, length, offset and n (COUNT and SEED are not used)
-//!   entries     COUNT positions, all 65,536 entries on each: the model's undo against a blind search
-//!   all         each of these
+//!   cursors     every cursor of three bytes, given and lent (COUNT and SEED are not used)
+//!   entries     COUNT positions, all 65,536 entries on each: every side's undo, and the model's against a blind search
+//!   all         each of these but cursors
 //! It leaves with 1 where a difference is not one of docs/DIFFERENCES.md.
 use compare::engine::Call;
 use compare::rng::Rng;
@@ -133,6 +134,15 @@ fn dealing(walk: &mut Walk) {
     }
 }
 
+fn cursors(walk: &mut Walk) {
+    for number in 0u32..1 << 24 {
+        let [len, step, offset, _] = number.to_le_bytes();
+        let cursor = Cursor { len, step, offset };
+        walk.ask(Call::DealOnce { cursor });
+        walk.ask(Call::DealOnceLent { cursor });
+    }
+}
+
 /// `offset(n)` for every n, and the available places, of a deck that has the first cards of its 24 left.
 fn rounds(tally: &mut Tally, cursor: Cursor) {
     let [len, step, offset] = [cursor.len, cursor.step, cursor.offset].map(usize::from);
@@ -162,13 +172,13 @@ fn entries(walk: &mut Walk, count: u64) {
         }
         for kind in 0..8 {
             for card in 0..64 {
-                entries_of(&mut walk.tally, &p, kind, card);
+                entries_of(walk, &p, kind, card);
             }
         }
     }
 }
 
-fn entries_of(tally: &mut Tally, p: &Position, kind: u8, card: u8) {
+fn entries_of(walk: &mut Walk, p: &Position, kind: u8, card: u8) {
     let is_move = model::undo::is_kind_and_card(kind, card);
     let found = if is_move { earlier_by_search(p, kind, card) } else { vec![] };
     for byte in 0..128 {
@@ -180,8 +190,9 @@ fn entries_of(tally: &mut Tally, p: &Position, kind: u8, card: u8) {
             ([(_, q)], Some(r)) => same(q, r),
             _ => false,
         };
-        tally.must("entries undone by the model as by a blind search", alike, || format!("{p:?} {last}"));
-        tally.note("of these entries accepted", u64::from(by_candidate.is_some()));
+        walk.tally.must("entries undone by the model as by a blind search", alike, || format!("{p:?} {last}"));
+        walk.tally.note("of these entries accepted", u64::from(by_candidate.is_some()));
+        walk.ask(Call::Undo { p: *p, history: vec![last], count: 1 });
     }
 }
 
@@ -204,6 +215,7 @@ fn main() {
         Some("limits") => limits(&mut walk, count),
         Some("codes") => codes(&mut walk, count),
         Some("dealing") => dealing(&mut walk),
+        Some("cursors") => cursors(&mut walk),
         Some("entries") => entries(&mut walk, count),
         Some("all") => {
             play(&mut walk, count);
@@ -216,7 +228,7 @@ fn main() {
             entries(&mut walk, count / 10);
         }
         _ => {
-            eprintln!("compare play|positions|refusals|bytes|limits|codes|dealing|entries|all [COUNT] [SEED]");
+            eprintln!("compare play|positions|refusals|bytes|limits|codes|dealing|cursors|entries|all [COUNT] [SEED]");
             std::process::exit(2);
         }
     }
