@@ -3,8 +3,9 @@
 // `list` hands back the front of the buffer itself, and no part of a slice can be an answer in C: `gravyhelm_list_into` gives how many slots are that front.
 ghost use mathlib.Core.Path.{_≡_};
 ghost use lib.ListN.{length};
-ghost use Rattle.rules.specs.Answers.{dealAnswer, resumeAnswer, saveAnswer, moveAnswer, moveHistory, undoAnswer, masksAnswer, testAnswer, listingAnswer, listingInto, winAnswer, sureWinAnswer, heightsAnswer, deckAnswer, findAnswer, offsetAnswer, pilesAnswer, pilesBuffer, cursorRefusal, dealOnceAnswer};
+ghost use Rattle.rules.specs.Answers.{dealAnswer, resumeAnswer, saveAnswer, moveAnswer, moveHistory, undoAnswer, masksAnswer, testAnswer, listingAnswer, listingInto, winAnswer, sureWinAnswer, ladderAnswer, heightsAnswer, deckAnswer, findAnswer, offsetAnswer, pilesAnswer, pilesBuffer, cursorRefusal, dealOnceAnswer};
 ghost use Rattle.panel.specs.Crossing.{asked, numbersOf, movedNumbers};
+use rules::Compared;
 use rules::Cursor;
 use rules::DeckView;
 use rules::Heights;
@@ -140,6 +141,13 @@ pub extern "C" fn gravyhelm_is_sure_win(p: Position) -> Told
     ensures { λ r. ⌜ r ≡ sureWinAnswer p ⌝ }
 {
     engine::is_sure_win(p)
+}
+
+#[no_mangle]
+pub extern "C" fn gravyhelm_ladder(p: Position, q: Position) -> Compared
+    ensures { λ r. ⌜ r ≡ ladderAnswer p q ⌝ }
+{
+    engine::ladder(p, q)
 }
 
 #[no_mangle]
