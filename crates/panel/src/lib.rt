@@ -1,6 +1,6 @@
 // The public calls for C and Rust: include/gravyhelm.h declares them. Each is the engine's call of the same name, with the same answer on every input.
 // Positions, cursors and answers go by value, as plain data of which nothing is trusted. A slice is a pointer and a length. A yes or no that is given is a byte: 0 is no.
-// `list` hands back the front of the buffer itself, and no part of a slice can be an answer in C: `gravyhelm_list_into` gives how many slots are that front.
+// `list` hands back the front of the buffer itself, and an exported function cannot return a reference: `gravyhelm_list_into` gives how many slots are that front.
 ghost use mathlib.Core.Path.{_≡_};
 ghost use lib.ListN.{length};
 ghost use Rattle.rules.specs.Answers.{dealAnswer, resumeAnswer, saveAnswer, moveAnswer, moveHistory, undoAnswer, masksAnswer, testAnswer, listingAnswer, listingInto, winAnswer, sureWinAnswer, ladderAnswer, heightsAnswer, deckAnswer, findAnswer, offsetAnswer, pilesAnswer, pilesBuffer, cursorRefusal, dealOnceAnswer};
@@ -42,18 +42,9 @@ fn numbers(turned: TurnedUp) -> TurnedNumbers
     ensures { λ r. ⌜ r ≡ numbersOf turned ⌝ }
 {
     match turned {
-        TurnedUp::Nothing => TurnedNumbers {
-            kind: 0,
-            card: 0,
-        },
-        TurnedUp::Emptied => TurnedNumbers {
-            kind: 1,
-            card: 0,
-        },
-        TurnedUp::Card(c) => TurnedNumbers {
-            kind: 2,
-            card: c.0,
-        },
+        TurnedUp::Nothing => TurnedNumbers { kind: 0, card: 0 },
+        TurnedUp::Emptied => TurnedNumbers { kind: 1, card: 0 },
+        TurnedUp::Card(c) => TurnedNumbers { kind: 2, card: c.0 },
     }
 }
 
@@ -107,7 +98,13 @@ pub extern "C" fn gravyhelm_list_count(p: Position, pruned: u8, room: usize) -> 
 }
 
 #[no_mangle]
-pub extern "C" fn gravyhelm_do_move(p: Position, history: &mut [u16], count: usize, kind: u8, card: u8) -> MovedNumbers
+pub extern "C" fn gravyhelm_do_move(
+    p: Position,
+    history: &mut [u16],
+    count: usize,
+    kind: u8,
+    card: u8,
+) -> MovedNumbers
     ensures { λ r. ⌜ (r ≡ movedNumbers (moveAnswer p (now (history .entry)) count kind card)) × (now (history .exit) ≡ moveHistory p (now (history .entry)) count kind card) ⌝ }
 {
     let m = engine::do_move(p, history, count, kind, card);

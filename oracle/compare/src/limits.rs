@@ -58,7 +58,8 @@ impl Walk {
 
     fn buffers(&mut self, p: &Position) {
         let p = *p;
-        let listed = if model::proper::proper(&p) { model::legal::listing(&model::legal::unpruned(&p)).len() } else { 3 };
+        let listed =
+            if model::proper::proper(&p) { model::legal::listing(&model::legal::unpruned(&p)).len() } else { 3 };
         for pruned in [false, true] {
             for room in (0..=listed + 1).chain([listed + 40]) {
                 let buffer = self.numbers(room);
@@ -78,7 +79,8 @@ impl Walk {
     /// A legal move, some move and one that is none, and their undo, at each count of short histories.
     fn histories(&mut self, p: &Position) {
         let p = *p;
-        let listed = if model::proper::proper(&p) { model::legal::listing(&model::legal::unpruned(&p)) } else { vec![] };
+        let listed =
+            if model::proper::proper(&p) { model::legal::listing(&model::legal::unpruned(&p)) } else { vec![] };
         for room in 0..4 {
             for count in (0..=room + 2).chain(FAR) {
                 let any = self.rng.below(320) as u16;

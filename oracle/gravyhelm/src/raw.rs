@@ -27,7 +27,14 @@ extern "C" {
     pub fn gravyhelm_find(p: Position, card: u8) -> Located;
     pub fn gravyhelm_offset(p: Position, n: u8) -> Offset;
     pub fn gravyhelm_piles(p: Position, out: *mut u8, length: usize) -> Piled;
-    pub fn gravyhelm_do_move(p: Position, history: *mut u16, length: usize, count: usize, kind: u8, card: u8) -> RawMoved;
+    pub fn gravyhelm_do_move(
+        p: Position,
+        history: *mut u16,
+        length: usize,
+        count: usize,
+        kind: u8,
+        card: u8,
+    ) -> RawMoved;
     pub fn gravyhelm_undo_move(p: Position, history: *const u16, length: usize, count: usize) -> Undone;
     pub fn gravyhelm_ladder(p: Position, q: Position) -> Compared;
     pub fn gravyhelm_deal_once(c: Cursor) -> Turned;
