@@ -190,6 +190,48 @@ pub fn spoilt(rng: &mut Rng, p: &Position) -> Position {
     q
 }
 
+/// The position's bytes, one after the other.
+fn bytes_of(p: &Position) -> Vec<u8> {
+    let mut bytes = p.deal.to_vec();
+    bytes.push(p.step);
+    bytes.extend(p.counts.iter().chain(&p.heights).chain(&p.deck).chain(&[p.left, p.offset]));
+    bytes.extend(p.visible.to_le_bytes());
+    bytes
+}
+
+fn of_bytes(bytes: &[u8]) -> Position {
+    let (deal, rest) = bytes.split_first_chunk().unwrap();
+    let (&[step], rest) = rest.split_first_chunk().unwrap();
+    let (counts, rest) = rest.split_first_chunk().unwrap();
+    let (heights, rest) = rest.split_first_chunk().unwrap();
+    let (deck, rest) = rest.split_first_chunk().unwrap();
+    let (&[left, offset], visible) = rest.split_first_chunk().unwrap();
+    let visible = u64::from_le_bytes(visible.try_into().unwrap());
+    Position { deal: *deal, step, counts: *counts, heights: *heights, deck: *deck, left, offset, visible }
+}
+
+/// Any bytes at all.
+pub fn any_bytes(rng: &mut Rng) -> Position {
+    let bytes: Vec<u8> = bytes_of(&BLANK).iter().map(|_| rng.next() as u8).collect();
+    of_bytes(&bytes)
+}
+
+/// One byte is another.
+pub fn byte_changed(rng: &mut Rng, p: &Position) -> Position {
+    let mut bytes = bytes_of(p);
+    let at = rng.below(bytes.len());
+    bytes[at] ^= 1 + rng.byte_below(255);
+    of_bytes(&bytes)
+}
+
+/// One bit is another.
+pub fn bit_changed(rng: &mut Rng, p: &Position) -> Position {
+    let mut bytes = bytes_of(p);
+    let at = rng.below(bytes.len());
+    bytes[at] ^= 1 << rng.below(8);
+    of_bytes(&bytes)
+}
+
 /// A position near a proper p: one card takes another home, the visible mask worked out. Often proper.
 pub fn shifted(rng: &mut Rng, p: &Position) -> Position {
     let mut q = *p;
@@ -206,6 +248,15 @@ pub fn shifted(rng: &mut Rng, p: &Position) -> Position {
     }
     q.visible = mask_of(&worked_out(&q));
     q
+}
+
+/// A code for a deal that may be of no proper position.
+pub fn some_code_or_any(rng: &mut Rng, p: &Position) -> u64 {
+    if model::proper::proper(p) {
+        some_code(rng, p)
+    } else {
+        rng.next()
+    }
 }
 
 /// A code for a deal: of a proper position, the same with a bit or a field changed, or any fields.

@@ -239,7 +239,12 @@ impl Engine for Rust {
     }
 }
 
-/// Every side there is.
+/// Every side there is: with the feature `ours` the proved engine too.
 pub fn all() -> Vec<Box<dyn Engine>> {
-    vec![Box::new(Model), Box::<Rust>::default()]
+    vec![
+        Box::new(Model),
+        Box::<Rust>::default(),
+        #[cfg(feature = "ours")]
+        Box::new(crate::ours::Ours),
+    ]
 }

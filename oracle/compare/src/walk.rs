@@ -39,7 +39,7 @@ impl Walk {
         }
     }
 
-    fn numbers(&mut self, room: usize) -> Vec<u16> {
+    pub fn numbers(&mut self, room: usize) -> Vec<u16> {
         (0..room).map(|_| self.rng.next() as u16).collect()
     }
 

@@ -2,10 +2,13 @@
 //!   play        COUNT games of random moves, steps 1 to 24 in turn, each played back to its start by undo
 //!   positions   COUNT proper positions that play need not reach
 //!   refusals    COUNT positions with a number or two spoilt, and COUNT wrong deals
+//!   bytes       COUNT positions of any bytes, COUNT proper ones with one byte changed and COUNT with one bit changed
+//!   limits      COUNT positions; buffers, histories, deals and numbers of every size around their limits
 //!   codes       COUNT codes to resume, right and wrong
 //!   dealing     every step, length, offset and n (COUNT and SEED are not used)
-//!   entries     COUNT positions, all 65,536 entries on each: the model's undo against a blind search
-//!   all         each of these
+//!   cursors     every cursor of three bytes, given and lent (COUNT and SEED are not used)
+//!   entries     COUNT positions, all 65,536 entries on each: every side's undo, and the model's against a blind search
+//!   all         each of these but cursors
 //! It leaves with 1 where a difference is not one of docs/DIFFERENCES.md.
 use compare::engine::Call;
 use compare::rng::Rng;
@@ -88,6 +91,20 @@ fn refusals(walk: &mut Walk, count: u64) {
     }
 }
 
+fn bytes(walk: &mut Walk, count: u64) {
+    for _ in 0..count {
+        walk.bytes();
+    }
+}
+
+fn limits(walk: &mut Walk, count: u64) {
+    for i in 0..count {
+        let p = make::proper_position(&mut walk.rng);
+        let p = if i % 8 == 7 { make::byte_changed(&mut walk.rng, &p) } else { p };
+        walk.limits(&p);
+    }
+}
+
 fn codes(walk: &mut Walk, count: u64) {
     for i in 0..count {
         let mut p = make::proper_position(&mut walk.rng);
@@ -114,6 +131,15 @@ fn dealing(walk: &mut Walk) {
                 }
             }
         }
+    }
+}
+
+fn cursors(walk: &mut Walk) {
+    for number in 0u32..1 << 24 {
+        let [len, step, offset, _] = number.to_le_bytes();
+        let cursor = Cursor { len, step, offset };
+        walk.ask(Call::DealOnce { cursor });
+        walk.ask(Call::DealOnceLent { cursor });
     }
 }
 
@@ -146,13 +172,13 @@ fn entries(walk: &mut Walk, count: u64) {
         }
         for kind in 0..8 {
             for card in 0..64 {
-                entries_of(&mut walk.tally, &p, kind, card);
+                entries_of(walk, &p, kind, card);
             }
         }
     }
 }
 
-fn entries_of(tally: &mut Tally, p: &Position, kind: u8, card: u8) {
+fn entries_of(walk: &mut Walk, p: &Position, kind: u8, card: u8) {
     let is_move = model::undo::is_kind_and_card(kind, card);
     let found = if is_move { earlier_by_search(p, kind, card) } else { vec![] };
     for byte in 0..128 {
@@ -164,8 +190,9 @@ fn entries_of(tally: &mut Tally, p: &Position, kind: u8, card: u8) {
             ([(_, q)], Some(r)) => same(q, r),
             _ => false,
         };
-        tally.must("entries undone by the model as by a blind search", alike, || format!("{p:?} {last}"));
-        tally.note("of these entries accepted", u64::from(by_candidate.is_some()));
+        walk.tally.must("entries undone by the model as by a blind search", alike, || format!("{p:?} {last}"));
+        walk.tally.note("of these entries accepted", u64::from(by_candidate.is_some()));
+        walk.ask(Call::Undo { p: *p, history: vec![last], count: 1 });
     }
 }
 
@@ -184,19 +211,24 @@ fn main() {
         Some("play") => play(&mut walk, count),
         Some("positions") => positions(&mut walk, count),
         Some("refusals") => refusals(&mut walk, count),
+        Some("bytes") => bytes(&mut walk, count),
+        Some("limits") => limits(&mut walk, count),
         Some("codes") => codes(&mut walk, count),
         Some("dealing") => dealing(&mut walk),
+        Some("cursors") => cursors(&mut walk),
         Some("entries") => entries(&mut walk, count),
         Some("all") => {
             play(&mut walk, count);
             positions(&mut walk, 100 * count);
             refusals(&mut walk, 100 * count);
+            bytes(&mut walk, 100 * count);
+            limits(&mut walk, 10 * count);
             codes(&mut walk, 1000 * count);
             dealing(&mut walk);
             entries(&mut walk, count / 10);
         }
         _ => {
-            eprintln!("compare play|positions|refusals|codes|dealing|entries|all [COUNT] [SEED]");
+            eprintln!("compare play|positions|refusals|bytes|limits|codes|dealing|cursors|entries|all [COUNT] [SEED]");
             std::process::exit(2);
         }
     }
