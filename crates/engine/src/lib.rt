@@ -7,6 +7,11 @@ ghost use denote.Ref.{ptr};
 ghost use Rattle.rules.specs.Play.{slots};
 ghost use Rattle.rules.specs.Proper.{proper};
 ghost use Rattle.rules.specs.Answers.{dealAnswer, resumeAnswer, saveAnswer, noMasks, masksFor, masksAnswer, testAnswer, listingAnswer, listingFront, listingInto, winAnswer, sureWinAnswer, heightsAnswer, deckAnswer, findAnswer, offsetAnswer, pilesAnswer, pilesBuffer};
+
+mod history;
+
+pub use history::do_move;
+pub use history::undo_move;
 use rules::DeckView;
 use rules::Heights;
 use rules::Listed;

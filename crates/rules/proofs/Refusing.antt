@@ -34,7 +34,7 @@ told-same zero s a b e h = ap (λ (x : Bool). 0 ∷ num x ∷ []) (h refl) ∙ a
 told-same (suc r) s a b e h = ap (λ (n : ℕ). n ∷ num (accepted n b false) ∷ []) e
 
 -- the four tests of a deal, and then x
-abbrev four : Bool → Bool → Bool → Bool → ℕ → ℕ
+abbrev pub four : Bool → Bool → Bool → Bool → ℕ → ℕ
 four a b c e x = not a refuses wrongStep else not b refuses wrongLength else not c refuses noCard else not e refuses sameCard else x
 
 abbrev pub firstFour : List ℕ → ℕ → ℕ → ℕ
@@ -69,3 +69,8 @@ four-first false b c e x = refl
 pub deal-first : (d : List ℕ) (step x : ℕ) → firstFour d step x ≡ accepted (dealRefusal d step) x (dealRefusal d step)
 unfolding dealRefusal
 deal-first d step x = four-first (stepRight step) (eqb (length d) 52) (areCards d) (areDifferent d) x
+
+-- the refusal of a deal by what its four tests say
+pub deal-tests : (d : List ℕ) (step : ℕ) (a b c e : Bool) → stepRight step ≡ a → eqb (length d) 52 ≡ b → areCards d ≡ c → areDifferent d ≡ e → four a b c e 0 ≡ dealRefusal d step
+unfolding dealRefusal
+deal-tests d step a b c e ea eb ec ee = rw (ea, eb, ec, ee)
