@@ -48,7 +48,7 @@ pub fn do_move(p: Position, history: &mut [u16], count: usize, kind: u8, card: u
     let after = made.position;
     let turned = made.turned;
     Moved {
-        refusal: 0,
+        refusal: crate::ACCEPTED,
         position: after,
         count: next,
         byte: made.byte,
@@ -85,7 +85,7 @@ pub fn undo_move(p: Position, history: &[u16], count: usize) -> Undone
     }
     let before = back.position;
     Undone {
-        refusal: 0,
+        refusal: crate::ACCEPTED,
         position: before,
         count: count - 1,
     }

@@ -16,6 +16,8 @@ use rules::Position;
 
 const N_FOUNDATIONS: usize = card::N_SUITS as usize;
 
+const N_CARDS: usize = card::N_CARDS as usize;
+
 // An entry of the history is byte·512 + kind·64 + card: the units of its parts, and how many kinds it has room for.
 const BYTE: u16 = 512;
 
@@ -36,6 +38,15 @@ fn same_bytes(a: &[u8], b: &[u8], n: usize) -> bool
         i += 1;
     }
     true
+}
+
+// Two positions are of one deal.
+pub fn same_deal(p: Position, q: Position) -> bool
+    ensures { λ r. ⌜ r ≡ sameList (p .deal) (q .deal) ⌝ }
+{
+    let a = p.deal;
+    let b = q.deal;
+    same_bytes(&a, &b, N_CARDS)
 }
 
 fn same_counts(p: Position, q: Position) -> bool

@@ -5,6 +5,7 @@ mod parts;
 mod unmake;
 
 pub use entries::entry;
+pub use entries::same_deal;
 pub use entries::undo;
 pub use make::do_move;
 use rules::Position;
