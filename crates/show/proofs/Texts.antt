@@ -102,7 +102,7 @@ module _ (l : List ℕ) (some : 0 < length l) (s : Started) (told : s ≡ dealAn
     started = ap (λ (t : Started). t .position) (told ∙ begun (dealRefusal deal step) _ _ right)
 
     pub is-proper : T (proper (s .position))
-    is-proper = subst (λ (p : Position). T (proper p)) (sym started) (fresh-proper deal step right .1)
+    is-proper = subst (λ (t : Started). T (proper (t .position))) (sym told) (fresh-proper deal step (sym (ap (λ (t : Started). t .refusal) told) ∙ ok) .1)
 
     pub shown-text : showText l ≡ shown (s .position)
     shown-text = of-some ∙ printed (dealRefusal deal step) _ _ right ∙ sym (ap shown started)
