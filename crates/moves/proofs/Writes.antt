@@ -16,7 +16,7 @@ use Rattle.rules.specs.Pruned.{size}
 use Rattle.rules.specs.Moves.{CardMasks, moveCount, fitting, listedOver}
 use Rattle.rules.proofs.ListingLaw.{cards-list, listed-length, listing-length}
 
-sets-append : (v w l : List ℕ) (i : ℕ) → sets (sets l i v) (i + length v) w ≡ sets l i (v ++ w)
+pub sets-append : (v w l : List ℕ) (i : ℕ) → sets (sets l i v) (i + length v) w ≡ sets l i (v ++ w)
 sets-append [] w l i = rw (add-zero i)
 sets-append (a ∷ v) w l i = rw (add-suc i (length v), ← suc-add i (length v)) (sets-append v w (set l i a) (suc i))
 
