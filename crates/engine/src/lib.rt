@@ -6,7 +6,7 @@ ghost use lib.ListN.{length};
 ghost use denote.Ref.{ptr};
 ghost use Rattle.rules.specs.Play.{slots};
 ghost use Rattle.rules.specs.Proper.{proper};
-ghost use Rattle.rules.specs.Answers.{noMasks, masksFor, masksAnswer, testAnswer, listingAnswer, listingFront, listingInto, winAnswer, sureWinAnswer, heightsAnswer, deckAnswer, findAnswer, offsetAnswer, pilesAnswer, pilesBuffer};
+ghost use Rattle.rules.specs.Answers.{dealAnswer, resumeAnswer, saveAnswer, noMasks, masksFor, masksAnswer, testAnswer, listingAnswer, listingFront, listingInto, winAnswer, sureWinAnswer, heightsAnswer, deckAnswer, findAnswer, offsetAnswer, pilesAnswer, pilesBuffer};
 use rules::DeckView;
 use rules::Heights;
 use rules::Listed;
@@ -16,6 +16,8 @@ use rules::Masks;
 use rules::Offset;
 use rules::Piled;
 use rules::Position;
+use rules::Saved;
+use rules::Started;
 use rules::Told;
 
 // The bytes that the face-up piles need.
@@ -25,6 +27,38 @@ pub const PILE_BYTES: usize = 91;
 const LAST_KIND: u8 = moves::REVEAL;
 
 const LAST_CARD: u8 = card::N_CARDS - 1;
+
+// A fresh deal of 52 cards. Refused, the blank position.
+pub fn deal(step: u8, cards: &[u8]) -> Started
+    ensures { λ r. ⌜ r ≡ dealAnswer (now (cards .entry)) step ⌝ }
+{
+    code::deal(step, cards)
+}
+
+// The position of a deal that a save code stands for. Refused, the blank position.
+pub fn resume(step: u8, cards: &[u8], code: u64) -> Started
+    ensures { λ r. ⌜ r ≡ resumeAnswer (now (cards .entry)) step code ⌝ }
+{
+    code::resume(step, cards, code)
+}
+
+// The save code.
+pub fn save(p: Position) -> Saved
+    ensures { λ r. ⌜ r ≡ saveAnswer p ⌝ }
+{
+    if !proper::is_proper(p) {
+        return Saved {
+            refusal: rules::NOT_PROPER,
+            position: p,
+            code: 0,
+        };
+    }
+    Saved {
+        refusal: 0,
+        position: p,
+        code: code::encode(p),
+    }
+}
 
 // No masks, for a refused call.
 fn no_masks() -> Masks

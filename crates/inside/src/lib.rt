@@ -6,6 +6,7 @@ ghost use Rattle.rules.specs.Proper.{proper};
 ghost use Rattle.rules.specs.Moves.{CardMasks};
 use rules::Masks;
 use rules::Position;
+use rules::Started;
 
 // A position is handed over, and nothing is done: what every call below pays for it.
 #[no_mangle]
@@ -69,4 +70,17 @@ pub extern "C" fn inside_find(p: Position, card: u8) -> u8
 {
     let f = deck::find_card(p, card);
     if f.found { f.place } else { 255 }
+}
+
+#[no_mangle]
+pub extern "C" fn inside_save(p: Position) -> u64
+    requires { ⌜ T (proper p) ⌝ }
+{
+    code::encode(p)
+}
+
+// With all its judging.
+#[no_mangle]
+pub extern "C" fn inside_resume(step: u8, cards: &[u8], code: u64) -> Started {
+    code::resume(step, cards, code)
 }

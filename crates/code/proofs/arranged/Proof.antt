@@ -1,0 +1,112 @@
+-- `code::arranged` meets its contract.
+-- Assumes nothing.
+use mathlib.Core.Bool.{Bool, true, false, _&&_, and-false}
+use mathlib.Core.Path.{_≡_, sym, ap, ap₂, _∙_}
+use Prim.Native.Nat.{ℕ, _+_}
+use native.Mathlib.Omega.{arith}
+use lib.Dec.{ltb, leb}
+use lib.ListN.{getD}
+use borrow.Author.Needs.{needs}
+use borrow.Author.Tests.{eq-eqb, ne-eqb, le-leb, lt-leb, not-true, not-false}
+use Rattle.bits.specs.Bit.{bit}
+use Rattle.bits.proofs.Laws.{mask-lt}
+use Rattle.rules.specs.Places.{isFree}
+use Rattle.rules.specs.Proper.{pairRule, sevenRule}
+use Rattle.rules.specs.Play.{withVisible}
+use Rattle.rules.specs.Answers.{overlaps}
+use Rattle.rules.proofs.Searches.{count-le}
+use Rattle.code.specs.Starts.{worked, arrangeRefusal, arrangeAnswer}
+use Rattle.code.proofs.Answered.{is-refused, is-started}
+use Rattle.code.proofs.Arranging.{freeOf, visible-is, meets-is, free-is, pairs-is, seven-is, refused-8, refused-9, arrange-passed}
+use Rattle.code.proofs.arranged.Statement.{statement}
+use Rattle.code.proofs.arranged.Tie as tie
+
+apart : (c : tie.Else1) → overlaps (worked (c .before .before .before .before .before .before .args .p)) ≡ false
+apart c = not-true _ (sym (meets-is (c .before .before .before .before .before .before .args .p) _ (c .before .before .before .before .before .sets-of .ensures)) ∙ eq-eqb _ 0 (c .if1 .left))
+
+pairs : (c : tie.After-pair-rule) → c .pair-rule .result ≡ pairRule (worked (c .before .before .before .before .before .before .before .before .before .before .args .p))
+pairs c = c .pair-rule .ensures ∙ pairs-is (c .before .before .before .before .before .before .before .before .before .before .args .p) _ (c .before .before .before .before .before .before .before .before .before .sets-of .ensures)
+
+seven : (c : tie.After-kings) → leb (c .before .count-heads .result + c .kings .result) 7 ≡ sevenRule (worked (c .before .before .before .before .before .before .before .before .before .before .before .before .before .before .args .p))
+seven c = ap₂ (λ (a b : ℕ). leb (a + b) 7) (c .before .count-heads .ensures) (c .kings .ensures) ∙ seven-is (c .before .before .before .before .before .before .before .before .before .before .before .before .before .before .args .p) _ (c .before .before .before .before .before .before .before .before .before .before .before .before .before .sets-of .ensures)
+
+sets-of-requires : tie.Need-sets-of-requires
+sets-of-requires c κs = search needs
+
+refused-requires : tie.Need-refused-requires
+refused-requires c κs = search needs
+
+returns : tie.Need-returns
+unfolding arrangeAnswer
+returns c =
+    let a = c .before .before .before .before .before .before in
+    let p = a .before .args .p in
+    c .refused .ensures
+    ∙ is-refused 8 (arrangeRefusal (worked p)) (worked p) (refused-8 (worked p) (not-false _ (sym (meets-is p _ (a .sets-of .ensures)) ∙ ne-eqb _ 0 (c .before .if1 .taken)))) (λ e. omega arith)
+
+pair-rule-requires : tie.Need-pair-rule-requires
+pair-rule-requires c κs = search needs
+
+refused-requires-2 : tie.Need-refused-requires-2
+refused-requires-2 c κs = search needs
+
+returns-2 : tie.Need-returns-2
+unfolding arrangeAnswer
+returns-2 c =
+    let r = c .before .before in
+    let p = r .before .before .before .before .before .before .before .before .before .before .args .p in
+    let broken : pairRule (worked p) ≡ false = sym (pairs r) ∙ not-true _ (c .before .if2 .taken) in
+    c .refused2 .ensures
+    ∙ is-refused 9 (arrangeRefusal (worked p)) (worked p) (refused-9 (worked p) (apart (r .before .before .before .before)) (ap (λ (b : Bool). b && sevenRule (worked p)) broken)) (λ e. omega arith)
+
+count-heads-requires : tie.Need-count-heads-requires
+count-heads-requires c κs = search needs
+
+kings-requires : tie.Need-kings-requires
+kings-requires c κs =
+    let p = c .before .before .before .before .before .before .before .before .before .before .before .before .before .args .p in
+    omega (arith, free-is p _ (c .before .before .before .before .before .before .before .before .before .before .before .before .sets-of .ensures), mask-lt 52 (isFree (worked p)))
+
+add-if3 : tie.Need-add-if3
+add-if3 c =
+    let p = c .before .before .before .before .before .before .before .before .before .before .before .before .before .before .args .p in
+    let f = freeOf (c .before .before .before .before .before .before .before .before .before .before .before .before .before .sets-of .result) in
+    omega (arith, c .before .count-heads .ensures, c .kings .ensures, count-le 7 (λ i. ltb 0 (getD (p .counts) i 0)), count-le 4 (λ s. bit f (48 + s)))
+
+refused-requires-3 : tie.Need-refused-requires-3
+refused-requires-3 c κs = search needs
+
+returns-3 : tie.Need-returns-3
+unfolding arrangeAnswer
+returns-3 c =
+    let k = c .before .before in
+    let p = k .before .before .before .before .before .before .before .before .before .before .before .before .before .before .args .p in
+    let broken : sevenRule (worked p) ≡ false = sym (seven k) ∙ lt-leb _ 7 (c .before .if3 .taken) in
+    c .refused3 .ensures
+    ∙ is-refused 9 (arrangeRefusal (worked p)) (worked p) (refused-9 (worked p) (apart (k .before .before .before .before .before .before .before .before)) (ap (λ (b : Bool). pairRule (worked p) && b) broken ∙ and-false (pairRule (worked p)))) (λ e. omega arith)
+
+returns-4 : tie.Need-returns-4
+unfolding arrangeAnswer withVisible
+returns-4 c =
+    let k = c .before in
+    let p = k .before .before .before .before .before .before .before .before .before .before .before .before .before .before .args .p in
+    is-started (arrangeRefusal (worked p)) (worked p) _
+    (arrange-passed (worked p) (apart (k .before .before .before .before .before .before .before .before)) (sym (pairs (k .before .before .before .before)) ∙ not-false _ (k .before .before .before .if2 .left)) (sym (seven k) ∙ le-leb _ 7 (c .if3 .left)))
+    (ap (withVisible p) (visible-is p _ (k .before .before .before .before .before .before .before .before .before .before .before .before .before .sets-of .ensures)))
+
+pub arranged-spec : {M : Type 1} → statement M
+arranged-spec =
+    tie.close
+    (tie.spec
+    sets-of-requires
+    refused-requires
+    returns
+    pair-rule-requires
+    refused-requires-2
+    returns-2
+    count-heads-requires
+    kings-requires
+    add-if3
+    refused-requires-3
+    returns-3
+    returns-4)

@@ -1,0 +1,54 @@
+-- `code::sets_of` meets its contract.
+-- Assumes nothing.
+use borrow.Author.Needs.{needs}
+use mathlib.Core.Path.{_≡_, _∙_}
+use native.Mathlib.Omega.{arith}
+use Rattle.rules.specs.Bits.{maskOf}
+use Rattle.rules.specs.Places.{count, height, cardAt, pileCard, deckCard, isBuried, hasHead, head, isHead, inDeck, onFoundation}
+use Rattle.rules.proofs.Shape.{shape}
+use Rattle.rules.specs.Hidden.{buriedIn, headIn}
+use Rattle.proper.specs.Masks.{stacked}
+use Rattle.proper.proofs.Sets.{cards-are}
+use Rattle.code.specs.Starts.{setsOf}
+use Rattle.code.proofs.sets_of.Statement.{statement}
+use Rattle.code.proofs.sets_of.Tie as tie
+
+foundation-mask-requires : tie.Need-foundation-mask-requires
+foundation-mask-requires c κs = search needs
+
+slice-aggregate-cards-from : tie.Need-slice-aggregate-cards-from
+slice-aggregate-cards-from c = search needs
+
+cast-cards-from : tie.Need-cast-cards-from
+cast-cards-from c = search needs
+
+cards-from-requires : tie.Need-cards-from-requires
+cards-from-requires c κs =
+    let b = c .before .before .before .before .before .before .before in
+    omega (arith, b .pre .left, shape (b .args .p) _ (b .good .0) .deck)
+
+buried-mask-requires : tie.Need-buried-mask-requires
+buried-mask-requires c κs = search needs
+
+head-mask-requires : tie.Need-head-mask-requires
+head-mask-requires c κs = search needs
+
+returns : tie.Need-returns
+unfolding setsOf onFoundation height inDeck deckCard isBuried isHead hasHead head pileCard cardAt count stacked buriedIn headIn
+returns c =
+    let f = c .before .before .before .before .before .before .before .before in
+    let b = f .before .before .before .before .before .before in
+    let d : c .before .before .before .before .before .before .cards-from .result ≡ maskOf 52 (inDeck (b .args .p)) = c .before .before .before .before .before .before .cards-from .ensures ∙ cards-are (b .args .p .deck) (b .args .p .left) (b .pre .deck) in
+    cc (f .foundation-mask .ensures, d, c .before .before .before .buried-mask .ensures, c .head-mask .ensures)
+
+pub sets-of-spec : {M : Type 1} → statement M
+sets-of-spec =
+    tie.close
+    (tie.spec
+    foundation-mask-requires
+    slice-aggregate-cards-from
+    cast-cards-from
+    cards-from-requires
+    buried-mask-requires
+    head-mask-requires
+    returns)

@@ -1,0 +1,272 @@
+// A fresh deal, the save code, and the position that a code stands for.
+ghost use mathlib.Core.Path.{_≡_};
+ghost use lib.Dec.{T};
+ghost use lib.ListN.{length, take, drop};
+ghost use Rattle.rules.specs.Hidden.{CardsFit};
+ghost use Rattle.rules.specs.Proper.{proper};
+ghost use Rattle.rules.specs.Code.{code as codeOf, fresh as freshOf, blank as blankOne};
+ghost use Rattle.rules.specs.Answers.{dealRefusal, dealAnswer, resumeAnswer};
+ghost use Rattle.code.specs.Starts.{refusedBy, fieldsOf, Ranged, setsOf, arrangeAnswer};
+use rules::Position;
+use rules::Started;
+
+const N_CARDS: usize = 52;
+
+const N_PILES: u32 = 7;
+
+const N_SUITS: usize = 4;
+
+// The piles take the first 28 cards of a deal, the deck the other 24.
+const N_PILE_CARDS: usize = 28;
+
+const N_DECK_CARDS: usize = 24;
+
+const MAX_STEP: u8 = 24;
+
+// The position that a refused deal or resume returns: all numbers 0.
+pub fn blank() -> Position
+    ensures { λ r. ⌜ r ≡ blankOne ⌝ }
+{
+    Position {
+        deal: [0u8; N_CARDS],
+        step: 0,
+        counts: [0u8; N_PILES as usize],
+        heights: [0u8; N_SUITS],
+        deck: [0u8; N_DECK_CARDS],
+        left: 0,
+        offset: 0,
+        visible: 0,
+    }
+}
+
+fn refused(number: u8) -> Started
+    ensures { λ r. ⌜ r ≡ refusedBy number ⌝ }
+{
+    Started {
+        refusal: number,
+        position: blank(),
+    }
+}
+
+// Refusals 1 to 4. A byte of 64 or more shows in the OR of all bytes, one of 52 to 63 above the mask's 52 bits;
+// then a card is there twice where another is missing.
+pub fn deal_refusal(step: u8, cards: &[u8]) -> u8
+    ensures { λ r. ⌜ r ≡ dealRefusal (now (cards .entry)) step ⌝ }
+{
+    if step == 0 {
+        return rules::WRONG_STEP;
+    }
+    if step > MAX_STEP {
+        return rules::WRONG_STEP;
+    }
+    if cards.len() != N_CARDS {
+        return rules::WRONG_LENGTH;
+    }
+    if !proper::all_small(cards) {
+        return rules::NO_CARD;
+    }
+    let seen = hidden::cards_from(cards, 0, N_CARDS);
+    if seen > proper::FULL {
+        return rules::NO_CARD;
+    }
+    if seen != proper::FULL {
+        return rules::SAME_CARD;
+    }
+    0
+}
+
+// The 52 bytes as an array.
+pub fn as_deal(cards: &[u8]) -> [u8; 52]
+    requires { ⌜ length (now cards) ≡ 52 ⌝ }
+    ensures { λ r. ⌜ r ≡ now (cards .entry) ⌝ }
+{
+    let mut deal = [0u8; N_CARDS];
+    let mut k: usize = 0;
+    while k < N_CARDS {
+        deal[k] = cards[k];
+        k += 1;
+    }
+    deal
+}
+
+// The last 24 cards of a deal.
+fn stock(cards: &[u8]) -> [u8; 24]
+    requires { ⌜ length (now cards) ≡ 52 ⌝ }
+    ensures { λ r. ⌜ r ≡ take 24 (drop 28 (now (cards .entry))) ⌝ }
+{
+    let mut deck = [0u8; N_DECK_CARDS];
+    let mut k: usize = 0;
+    while k < N_DECK_CARDS {
+        deck[k] = cards[N_PILE_CARDS + k];
+        k += 1;
+    }
+    deck
+}
+
+// A fresh deal: every pile whole, nothing on the foundations, the whole deck; visible are the heads.
+pub fn fresh(step: u8, deal: [u8; 52]) -> Position
+    requires { ⌜ CardsFit deal ⌝ }
+    ensures { λ r. ⌜ r ≡ freshOf deal step ⌝ }
+{
+    let counts = [1u8, 2, 3, 4, 5, 6, 7];
+    Position {
+        deal: deal,
+        step: step,
+        counts: counts,
+        heights: [0u8; N_SUITS],
+        deck: stock(&deal),
+        left: N_DECK_CARDS as u8,
+        offset: 0,
+        visible: hidden::head_mask(&deal, &counts),
+    }
+}
+
+// The public deal: a fresh position, or the refusal and the blank one.
+pub fn deal(step: u8, cards: &[u8]) -> Started
+    ensures { λ r. ⌜ r ≡ dealAnswer (now (cards .entry)) step ⌝ }
+{
+    let wrong = deal_refusal(step, cards);
+    if wrong != 0 {
+        return refused(wrong);
+    }
+    Started {
+        refusal: 0,
+        position: fresh(step, as_deal(cards)),
+    }
+}
+
+// Where the fields of a save code begin: the heights at 0, then the piles, the deck, the offset.
+const PILES_AT: u32 = 16;
+
+const DECK_AT: u32 = 32;
+
+const OFFSET_AT: u32 = 56;
+
+// The lowest 16 and the lowest 24 bits.
+const LOW_16: u64 = 0xFFFF;
+
+const LOW_24: u64 = 0xFF_FFFF;
+
+// The save code.
+pub fn encode(p: Position) -> u64
+    requires { ⌜ T (proper p) ⌝ }
+    ensures { λ r. ⌜ r ≡ codeOf p ⌝ }
+{
+    let heights = p.heights;
+    let counts = p.counts;
+    let offset = deck::normalized_offset(p.left, p.step, p.offset);
+    stack::encode(heights) as u64
+        | (hidden::encode(&counts) as u64) << PILES_AT
+        | (deck::encode(p) as u64) << DECK_AT
+        | (offset as u64) << OFFSET_AT
+}
+
+// The four fields of a save code.
+struct Fields {
+    heights: u16,
+    piles: u16,
+    deck: u32,
+    offset: u8,
+}
+
+fn fields_of(code: u64) -> Fields
+    ensures { λ r. ⌜ r ≡ fieldsOf code ⌝ }
+{
+    Fields {
+        heights: (code & LOW_16) as u16,
+        piles: ((code >> PILES_AT) & LOW_16) as u16,
+        deck: ((code >> DECK_AT) & LOW_24) as u32,
+        offset: (code >> OFFSET_AT) as u8,
+    }
+}
+
+// The cards by where they lie.
+struct Sets {
+    foundation: u64,
+    deck: u64,
+    buried: u64,
+    heads: u64,
+}
+
+fn sets_of(p: Position) -> Sets
+    requires { ⌜ Ranged p ⌝ }
+    ensures { λ r. ⌜ r ≡ setsOf p ⌝ }
+{
+    let deal = p.deal;
+    let counts = p.counts;
+    let heights = p.heights;
+    let deck = p.deck;
+    let left = p.left;
+    Sets {
+        foundation: proper::foundation_mask(&heights),
+        deck: hidden::cards_from(&deck, 0, left as usize),
+        buried: hidden::buried_mask(&deal, &counts),
+        heads: hidden::head_mask(&deal, &counts),
+    }
+}
+
+// Refusals 8 and 9, and else the position with its visible mask: every card that is in none of foundation, deck, buried.
+fn arranged(mut p: Position) -> Started
+    requires { ⌜ Ranged p ⌝ }
+    ensures { λ r. ⌜ r ≡ arrangeAnswer p ⌝ }
+{
+    let s = sets_of(p);
+    let counts = p.counts;
+    if s.foundation & (s.deck | s.buried | s.heads) != 0 {
+        return refused(rules::OVERLAPPING);
+    }
+    let visible = proper::FULL & !(s.foundation | s.deck | s.buried);
+    let free = visible & !s.heads;
+    if !proper::pair_rule(free, visible) {
+        return refused(rules::UNARRANGED);
+    }
+    if proper::count_heads(&counts) + proper::kings(free) > N_PILES {
+        return refused(rules::UNARRANGED);
+    }
+    p.visible = visible;
+    Started {
+        refusal: 0,
+        position: p,
+    }
+}
+
+// The public resume: the position that a code stands for, or the first refusal, 1 to 9, and the blank one. No field is taken modulo.
+pub fn resume(step: u8, cards: &[u8], code: u64) -> Started
+    ensures { λ r. ⌜ r ≡ resumeAnswer (now (cards .entry)) step code ⌝ }
+{
+    let number = deal_refusal(step, cards);
+    if number != 0 {
+        return refused(number);
+    }
+    let fields = fields_of(code);
+    let heights = stack::decode(fields.heights);
+    if !stack::is_valid(heights) {
+        return refused(rules::WRONG_HEIGHT);
+    }
+    let piles = hidden::decode(fields.piles);
+    if !piles.fits {
+        return refused(rules::WRONG_PILES);
+    }
+    let counts = piles.counts;
+    let deal = as_deal(cards);
+    let rest = deck::decode(deal, fields.deck);
+    let deck = rest.deck;
+    let left = rest.left;
+    let offset = fields.offset;
+    if offset > left {
+        return refused(rules::WRONG_OFFSET);
+    }
+    if deck::normalized_offset(left, step, offset) != offset {
+        return refused(rules::WRONG_OFFSET);
+    }
+    arranged(Position {
+        deal: deal,
+        step: step,
+        counts: counts,
+        heights: heights,
+        deck: deck,
+        left: left,
+        offset: offset,
+        visible: 0,
+    })
+}
