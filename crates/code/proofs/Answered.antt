@@ -1,6 +1,6 @@
 -- The answer of a deal or a resume, by its refusal.
 -- Assumes nothing.
-use mathlib.Core.Path.{_≡_, refl, sym, ap, ap₂, _∙_}
+use mathlib.Core.Path.{_≡_, sym, ap, _∙_}
 use Prim.Native.Nat.{ℕ, zero, suc}
 use Rattle.rules.specs.declared.Position.{Position}
 use Rattle.rules.specs.declared.Started.{Started}

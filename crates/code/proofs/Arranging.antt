@@ -12,10 +12,11 @@ use Rattle.bits.proofs.Algebra.{and-masks, or-masks, and-not-masks}
 use Rattle.bits.proofs.Tables.{table}
 use Rattle.rules.specs.declared.Position.{Position}
 use Rattle.rules.specs.Bits.{anyOf, allOf}
-use Rattle.rules.specs.Places.{count, height, cardAt, pileCard, deckCard, isBuried, hasHead, head, isHead, isVisible, isFree, isLocked, inDeck, onFoundation}
+use Rattle.rules.specs.Places.{count, height, cardAt, pileCard, deckCard, isBuried, hasHead, head, isHead, isVisible, isFree, inDeck, onFoundation}
 use Rattle.rules.specs.Proper.{pairRule, sevenRule}
 use Rattle.rules.specs.Play.{withVisible}
 use Rattle.rules.specs.Code.{workedOut}
+use Rattle.rules.specs.Refusals.{_refuses_else_, overlapping, unarranged}
 use Rattle.rules.specs.Answers.{overlaps}
 use Rattle.rules.proofs.Searches.{any-ext}
 use Rattle.rules.proofs.ProperLaw.{locked-is}
@@ -100,16 +101,7 @@ module _ (p : Position) where
     unfolding withVisible
     seven-is = ap (λ (f : ℕ). leb (countOf 7 (λ i. ltb 0 (getD (p .counts) i 0)) + countOf 4 (λ k. bit f (48 + k))) 7) free-is ∙ seven-was (worked p)
 
--- each end of the two tests
-module _ (q : Position) where
-  pub refused-8 : overlaps q ≡ true → 8 ≡ arrangeRefusal q
-  unfolding arrangeRefusal
-  refused-8 e = rw e
-
-  pub refused-9 : overlaps q ≡ false → (pairRule q && sevenRule q) ≡ false → 9 ≡ arrangeRefusal q
-  unfolding arrangeRefusal
-  refused-9 o e = rw (o, e)
-
-  pub arrange-passed : overlaps q ≡ false → pairRule q ≡ true → sevenRule q ≡ true → arrangeRefusal q ≡ 0
-  unfolding arrangeRefusal
-  arrange-passed o e f = rw (o, e, f)
+-- the refusal by what the two tests say
+pub arrange-tests : (q : Position) (a b : Bool) → overlaps q ≡ a → (pairRule q && sevenRule q) ≡ b → (a refuses overlapping else not b refuses unarranged else 0) ≡ arrangeRefusal q
+unfolding arrangeRefusal
+arrange-tests q a b ea eb = rw (ea, eb)

@@ -1,23 +1,21 @@
 -- The tests of a deal by its mask, refusals 3 and 4.
 -- Assumes nothing.
-use mathlib.Core.Bool.{Bool, true, false, not, _&&_, true≢false}
+use mathlib.Core.Bool.{Bool, true, false, _&&_, true≢false}
 use mathlib.Core.Path.{_≡_, refl, sym, ap, _∙_}
 use mathlib.Core.List.{List}
 use Prim.Native.Nat.{ℕ, _+_, _-_, _%_, _^_, _≤_, _<_}
 use native.Mathlib.Nat.{zero-add}
 use native.Mathlib.Omega.{arith}
 use lib.Dec.{eqb, ltb}
-use lib.ListN.{length, getD}
-use borrow.Author.Tests.{eq-eqb, ne-eqb, ltb-true, ltb-false}
-use Rattle.bits.specs.Bit.{bit}
+use lib.ListN.{getD}
+use borrow.Author.Tests.{eq-eqb, ltb-true, ltb-false}
 use Rattle.bits.proofs.Laws.{bit-mask, mask-lt, bit-high}
 use Rattle.rules.specs.Bits.{anyOf, allOf}
-use Rattle.rules.specs.Proper.{areCards, areDifferent, stepRight}
-use Rattle.rules.specs.Answers.{dealRefusal}
-use Rattle.rules.proofs.Searches.{all-yes, yes-all, yes-any}
-use Rattle.rules.proofs.VeilLaw.{is-false, same-test}
+use Rattle.rules.specs.Proper.{areCards, areDifferent}
+use Rattle.rules.proofs.Searches.{all-yes, yes-all, yes-any, is-false}
 use Rattle.rules.specs.Hidden.{cardsFrom}
-use Rattle.proper.proofs.DealRight.{deal-is, small-of, cards-low}
+use Rattle.proper.proofs.DealRight.{deal-is, small-of}
+use Rattle.rules.proofs.DealLaw.{cards-low}
 use Rattle.proper.proofs.Sets.{cards-are}
 
 abbrev Small : List ℕ → Bool
@@ -51,27 +49,3 @@ module _ (d : List ℕ) where
   -- among cards, the full mask means that all are different
   pub different-is : Small d ≡ true → areCards d ≡ true → eqb (cardsFrom d 0 52) (2 ^ 52 - 1) ≡ areDifferent d
   different-is s h = deal-is d s ∙ ap (λ (b : Bool). b && areDifferent d) h
-
--- each end of the four tests
-module _ (d : List ℕ) (step : ℕ) where
-  pub refused-1 : stepRight step ≡ false → 1 ≡ dealRefusal d step
-  unfolding dealRefusal
-  refused-1 e = rw e
-
-  module _ (fair : stepRight step ≡ true) where
-    pub refused-2 : (length d ≡ 52 → ⊥) → 2 ≡ dealRefusal d step
-    unfolding dealRefusal
-    refused-2 e = rw (fair, ne-eqb (length d) 52 e)
-
-    module _ (long : length d ≡ 52) where
-      pub refused-3 : areCards d ≡ false → 3 ≡ dealRefusal d step
-      unfolding dealRefusal
-      refused-3 e = rw (fair, eq-eqb (length d) 52 long, e)
-
-      pub refused-4 : areCards d ≡ true → areDifferent d ≡ false → 4 ≡ dealRefusal d step
-      unfolding dealRefusal
-      refused-4 h e = rw (fair, eq-eqb (length d) 52 long, h, e)
-
-      pub not-refused : areCards d ≡ true → areDifferent d ≡ true → 0 ≡ dealRefusal d step
-      unfolding dealRefusal
-      not-refused h e = rw (fair, eq-eqb (length d) 52 long, h, e)

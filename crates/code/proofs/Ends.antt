@@ -1,19 +1,17 @@
--- Each end of a resume: its refusal by the first test that fails.
+-- The refusal of a resume, by what its tests say.
 -- Assumes nothing.
-use mathlib.Core.Bool.{Bool, true, false, not, _&&_, _||_}
+use mathlib.Core.Bool.{Bool, true, false, not}
 use mathlib.Core.Path.{_≡_, refl, sym, ap, _∙_}
 use mathlib.Core.List.{List}
 use Prim.Native.Nat.{ℕ, zero, suc, _≤_, _<_}
 use lib.Dec.{eqb, ltb, leb}
-use lib.ListN.{length}
-use borrow.Author.Tests.{eq-eqb, lt-ltb, le-ltb}
+use borrow.Author.Tests.{lt-ltb, le-ltb}
 use Rattle.rules.specs.Bits.{anyOf}
-use Rattle.rules.specs.Proper.{areCards, areDifferent, stepRight, pairRule, sevenRule}
 use Rattle.rules.specs.Code.{codeHeight, codePiles, codeLeft, codeOffset, storedOffset, resumed}
-use Rattle.rules.specs.Refusals.{_refuses_else_, accepted, wrongHeight, wrongPiles, wrongOffset, overlapping, unarranged}
-use Rattle.rules.specs.Answers.{dealRefusal, overlaps, offsetWrong, resumeRefusal}
+use Rattle.rules.specs.Refusals.{_refuses_else_, accepted, wrongHeight, wrongPiles, wrongOffset}
+use Rattle.rules.specs.Answers.{dealRefusal, offsetWrong, resumeRefusal}
 use Rattle.rules.proofs.Searches.{or-left, or-right}
-use Rattle.rules.proofs.Refusing.{Dealt, deal-first}
+use Rattle.rules.proofs.Refusing.{deal-first}
 use Rattle.code.specs.Starts.{arrangeRefusal}
 
 -- the offset's test
@@ -33,40 +31,27 @@ module _ (step x : ℕ) where
   unfolding offsetWrong
   offset-right l e = rw (le-ltb (codeLeft x) (codeOffset x) l, e)
 
--- the five tests after those of a deal
-later : List ℕ → ℕ → ℕ → ℕ
-later d step x =
-    anyOf 4 (λ s. ltb 13 (codeHeight x s)) refuses wrongHeight else
-    leb 40320 (codePiles x) refuses wrongPiles else
-    offsetWrong step x refuses wrongOffset else
-    overlaps (resumed d step x) refuses overlapping else
-    not (pairRule (resumed d step x) && sevenRule (resumed d step x)) refuses unarranged else
-    0
+-- the three tests of the fields, and then y
+abbrev fields : Bool → Bool → Bool → ℕ → ℕ
+fields a b c y = a refuses wrongHeight else b refuses wrongPiles else c refuses wrongOffset else y
 
 module _ (d : List ℕ) (step x : ℕ) where
+  later : ℕ
+  later = fields (anyOf 4 (λ s. ltb 13 (codeHeight x s))) (leb 40320 (codePiles x)) (offsetWrong step x) (arrangeRefusal (resumed d step x))
+
+  -- a resume's refusal is its deal's, and else that of its fields and of its cards
+  deal-then : accepted (dealRefusal d step) later (dealRefusal d step) ≡ resumeRefusal d step x
+  unfolding resumeRefusal arrangeRefusal later
+  deal-then = sym (deal-first d step later)
+
   pub refused-deal : (n : ℕ) → n ≡ dealRefusal d step → (n ≡ 0 → ⊥) → n ≡ resumeRefusal d step x
-  unfolding resumeRefusal later
-  refused-deal n e h = e ∙ go (dealRefusal d step) (λ z. h (e ∙ z)) ∙ sym (deal-first d step (later d step x))
+  refused-deal n e h = e ∙ go (dealRefusal d step) (λ z. h (e ∙ z)) ∙ deal-then
     where
-      go : (r : ℕ) → (r ≡ 0 → ⊥) → r ≡ accepted r (later d step x) r
+      go : (r : ℕ) → (r ≡ 0 → ⊥) → r ≡ accepted r later r
       go zero k = absurd (k refl)
       go (suc r) k = refl
 
-  module _ (g : Dealt d step) where
-    pub refused-5 : anyOf 4 (λ s. ltb 13 (codeHeight x s)) ≡ true → 5 ≡ resumeRefusal d step x
-    unfolding resumeRefusal
-    refused-5 e = rw (g .fair, eq-eqb (length d) 52 (g .long), g .cards, g .different, e)
-
-    module _ (low : anyOf 4 (λ s. ltb 13 (codeHeight x s)) ≡ false) where
-      pub refused-6 : leb 40320 (codePiles x) ≡ true → 6 ≡ resumeRefusal d step x
-      unfolding resumeRefusal
-      refused-6 e = rw (g .fair, eq-eqb (length d) 52 (g .long), g .cards, g .different, low, e)
-
-      module _ (few : leb 40320 (codePiles x) ≡ false) where
-        pub refused-7 : offsetWrong step x ≡ true → 7 ≡ resumeRefusal d step x
-        unfolding resumeRefusal
-        refused-7 e = rw (g .fair, eq-eqb (length d) 52 (g .long), g .cards, g .different, low, few, e)
-
-        pub refused-later : offsetWrong step x ≡ false → arrangeRefusal (resumed d step x) ≡ resumeRefusal d step x
-        unfolding resumeRefusal arrangeRefusal
-        refused-later e = rw (g .fair, eq-eqb (length d) 52 (g .long), g .cards, g .different, low, few, e)
+  -- of a deal that is not refused, by what the three tests say
+  pub resume-tests : dealRefusal d step ≡ 0 → (a b c : Bool) → anyOf 4 (λ s. ltb 13 (codeHeight x s)) ≡ a → leb 40320 (codePiles x) ≡ b → offsetWrong step x ≡ c → fields a b c (arrangeRefusal (resumed d step x)) ≡ resumeRefusal d step x
+  unfolding later
+  resume-tests z a b c ea eb ec = rw (← ea, ← eb, ← ec) (ap (λ (r : ℕ). accepted r later r) (sym z) ∙ deal-then)

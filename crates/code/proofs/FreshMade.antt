@@ -1,6 +1,6 @@
 -- A fresh position, put together from the deal, its last 24 cards and the mask of its heads.
 -- Assumes nothing.
-use mathlib.Core.Path.{_≡_, refl, sym, ap, ap₂, _∙_}
+use mathlib.Core.Path.{_≡_, sym, ap₂, _∙_}
 use mathlib.Core.List.{List, [], _∷_}
 use Prim.Native.Nat.{ℕ, _+_, _-_, _≤_, _<_}
 use native.Mathlib.Omega.{arith}
@@ -11,7 +11,7 @@ use Rattle.rules.specs.Bits.{maskOf}
 use Rattle.rules.specs.Places.{pileCard, cardAt, count, hasHead, head, isHead}
 use Rattle.rules.specs.Play.{slots, withVisible}
 use Rattle.rules.specs.Code.{table, freshParts, fresh}
-use Rattle.rules.proofs.VeilLaw.{getD-table}
+use Rattle.rules.proofs.Searches.{getD-table}
 use Rattle.rules.specs.Hidden.{headIn}
 
 -- "Pile i takes i+1 cards": every pile whole

@@ -1,29 +1,28 @@
 -- The fields of a code, as they are put together and as they are taken apart, are those of the definition.
 -- Assumes nothing.
-use mathlib.Core.Bool.{Bool, true, false, not, _||_, cond}
-use mathlib.Core.Path.{_≡_, refl, sym, ap, _∙_}
+use mathlib.Core.Bool.{Bool, true, false, not}
+use mathlib.Core.Path.{_≡_, refl, ap, _∙_}
 use mathlib.Core.List.{List, _∷_, [], _++_, map}
 use Prim.Native.Nat.{ℕ, zero, suc, _+_, _-_, _*_, _/_, _%_, _^_, _≤_, _<_}
 use native.Mathlib.Omega.{arith}
-use lib.Dec.{eqb, ltb, leb, lit<}
+use lib.Dec.{ltb, leb, lit<}
 use lib.ListN.{length, getD, take, replicate}
 use lib.Bits.{bitOr, or-shifted-r}
 use borrow.Author.Tests.{ltb-true, ltb-false, le-leb, lt-leb}
 use Rattle.bits.specs.Bit.{bit, countOf, listOf}
 use Rattle.bits.proofs.Laws.{mask-lt}
 use Rattle.rules.specs.declared.Position.{Position}
-use Rattle.rules.specs.Bits.{anyOf, allOf}
+use Rattle.rules.specs.Bits.{anyOf}
 use Rattle.rules.specs.Places.{count, height, inDeck, stockCard}
 use Rattle.rules.specs.Proper.{areCards}
 use Rattle.rules.specs.Foundations.{validOn, fieldOn}
 use Rattle.rules.specs.Play.{slots}
 use Rattle.rules.specs.Code.{heightField, countsField, pileField, deckField, storedOffset, code, codeHeight, codeCount, codeHas, codeLeft, codeOffset, table, deckOf, codeParts}
-use Rattle.rules.proofs.Searches.{all-ext, count-ext, list-ext, count-le}
+use Rattle.rules.proofs.Searches.{all-ext, count-ext, list-ext, count-le, getD-table}
 use Rattle.rules.proofs.ProperMade.{Numbers, any-none}
-use Rattle.rules.proofs.VeilLaw.{getD-table}
 use Rattle.rules.proofs.PileField.{table-ext, field-low}
 use Rattle.rules.proofs.Digits.{below4, has-bit, stored-fits, code-fits}
-use Rattle.proper.proofs.DealRight.{cards-low}
+use Rattle.rules.proofs.DealLaw.{cards-low}
 use Rattle.code.specs.Starts.{Ranged}
 use Rattle.code.proofs.Arranging.{all-not}
 

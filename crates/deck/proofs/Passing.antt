@@ -17,8 +17,7 @@ use Rattle.rules.specs.Bits.{num, anyOf, countOf, firstOf}
 use Rattle.rules.specs.Places.{cardAt, stockCard, deckCard, inDeck}
 use Rattle.rules.specs.Proper.{proper, deckRight, strike, inOrder}
 use Rattle.rules.specs.Answers.{stockPlace, findPlace}
-use Rattle.rules.proofs.Searches.{and-left, and-right, and-both, any-yes, yes-any, first-yes, first-least, count-snoc}
-use Rattle.rules.proofs.VeilLaw.{is-false}
+use Rattle.rules.proofs.Searches.{and-left, and-right, and-both, any-yes, yes-any, first-yes, first-least, count-snoc, is-false}
 use Rattle.rules.proofs.ProperLaw.{parts}
 use Rattle.rules.proofs.Facts.{facts, in-order}
 

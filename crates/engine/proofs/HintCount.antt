@@ -9,10 +9,9 @@ use borrow.Author.Tests.{le-ltb}
 use lib.ListN.{length}
 use Rattle.rules.specs.declared.Position.{Position}
 use Rattle.rules.specs.declared.Masks.{Masks}
-use Rattle.rules.specs.Proper.{proper}
+use Rattle.rules.specs.Proper.{proper, Shaped}
 use Rattle.rules.specs.Legal.{listing}
 use Rattle.rules.specs.Moves.{CardMasks, moveCount, fitting}
-use Rattle.rules.specs.Demands.{Shaped}
 use Rattle.rules.specs.Answers.{masksFor}
 use Rattle.rules.proofs.Shape.{Shape}
 use Rattle.rules.proofs.MoveMasks.{unpruned-cards, pruned-cards}

@@ -1,12 +1,19 @@
 // The public calls. Each judges its own input, requires nothing, and refuses by document 01's numbers, in its order.
 // A refused call hands back the position it was given and leaves lent memory as it was.
 ghost use mathlib.Core.Path.{_≡_};
+ghost use mathlib.Core.Bool.{false};
 ghost use lib.Dec.{T};
 ghost use lib.ListN.{length};
 ghost use denote.Ref.{ptr};
 ghost use Rattle.rules.specs.Play.{slots};
 ghost use Rattle.rules.specs.Proper.{proper};
-ghost use Rattle.rules.specs.Answers.{dealAnswer, resumeAnswer, saveAnswer, noMasks, masksFor, masksAnswer, testAnswer, listingAnswer, listingFront, listingInto, winAnswer, sureWinAnswer, heightsAnswer, deckAnswer, findAnswer, offsetAnswer, pilesAnswer, pilesBuffer};
+ghost use Rattle.rules.specs.Answers.{dealAnswer, resumeAnswer, saveAnswer, ladderAnswer, noMasks, masksFor, masksAnswer, testAnswer, listingAnswer, listingFront, listingInto, winAnswer, sureWinAnswer, heightsAnswer, deckAnswer, findAnswer, offsetAnswer, pilesAnswer, pilesBuffer};
+
+mod history;
+
+pub use history::do_move;
+pub use history::undo_move;
+use rules::Compared;
 use rules::DeckView;
 use rules::Heights;
 use rules::Listed;
@@ -22,6 +29,9 @@ use rules::Told;
 
 // The bytes that the face-up piles need.
 pub const PILE_BYTES: usize = 91;
+
+// No refusal.
+const ACCEPTED: u8 = 0;
 
 // The highest kind and the highest card.
 const LAST_KIND: u8 = moves::REVEAL;
@@ -54,7 +64,7 @@ pub fn save(p: Position) -> Saved
         };
     }
     Saved {
-        refusal: 0,
+        refusal: ACCEPTED,
         position: p,
         code: code::encode(p),
     }
@@ -88,17 +98,19 @@ fn hints(p: Position, pruned: bool) -> Masks
 pub fn masks(p: Position, pruned: bool) -> Masked
     ensures { λ r. ⌜ r ≡ masksAnswer pruned p ⌝ }
 {
+    let none = no_masks();
     if !proper::is_proper(p) {
         return Masked {
             refusal: rules::NOT_PROPER,
             position: p,
-            masks: no_masks(),
+            masks: none,
         };
     }
+    let found = hints(p, pruned);
     Masked {
-        refusal: 0,
+        refusal: ACCEPTED,
         position: p,
-        masks: hints(p, pruned),
+        masks: found,
     }
 }
 
@@ -128,7 +140,7 @@ pub fn test(p: Position, kind: u8, card: u8) -> Told
         };
     }
     Told {
-        refusal: 0,
+        refusal: ACCEPTED,
         position: p,
         yes: state::is_valid_move(p, kind, card),
     }
@@ -155,7 +167,7 @@ pub fn list_into(p: Position, pruned: bool, out: &mut [u16]) -> Listed
     }
     let n = moves::list_into(m, out);
     Listed {
-        refusal: 0,
+        refusal: ACCEPTED,
         position: p,
         count: n,
     }
@@ -189,7 +201,7 @@ pub fn list_count(p: Position, pruned: bool, room: usize) -> Listed
         };
     }
     Listed {
-        refusal: 0,
+        refusal: ACCEPTED,
         position: p,
         count: n,
     }
@@ -208,7 +220,7 @@ pub fn is_win(p: Position) -> Told
     }
     let heights = p.heights;
     Told {
-        refusal: 0,
+        refusal: ACCEPTED,
         position: p,
         yes: stack::is_full(heights),
     }
@@ -228,13 +240,13 @@ pub fn is_sure_win(p: Position) -> Told
     let counts = p.counts;
     if p.left > 1 {
         return Told {
-            refusal: 0,
+            refusal: ACCEPTED,
             position: p,
             yes: false,
         };
     }
     Told {
-        refusal: 0,
+        refusal: ACCEPTED,
         position: p,
         yes: hidden::is_all_up(&counts),
     }
@@ -253,7 +265,7 @@ pub fn heights(p: Position) -> Heights
     }
     let h = p.heights;
     Heights {
-        refusal: 0,
+        refusal: ACCEPTED,
         position: p,
         heights: h,
     }
@@ -274,7 +286,7 @@ pub fn deck(p: Position) -> DeckView
     }
     let cards = p.deck;
     DeckView {
-        refusal: 0,
+        refusal: ACCEPTED,
         position: p,
         cards: deck::cards(cards, p.left),
         left: p.left,
@@ -304,7 +316,7 @@ pub fn find(p: Position, card: u8) -> Located
     }
     let f = deck::find_card(p, card);
     Located {
-        refusal: 0,
+        refusal: ACCEPTED,
         position: p,
         found: f.found,
         place: f.place,
@@ -323,7 +335,7 @@ pub fn offset(p: Position, n: u8) -> Offset
         };
     }
     Offset {
-        refusal: 0,
+        refusal: ACCEPTED,
         position: p,
         offset: deck::offset(p.left, p.step, p.offset, n),
     }
@@ -348,8 +360,43 @@ pub fn piles(p: Position, out: &mut [u8]) -> Piled
         };
     }
     Piled {
-        refusal: 0,
+        refusal: ACCEPTED,
         position: p,
         lengths: piles::compute_visible_piles(p, out),
+    }
+}
+
+// Whether two positions are the same on the ladder: of one deal and step, with one code.
+pub fn ladder(p: Position, q: Position) -> Compared
+    ensures { λ r. ⌜ r ≡ ladderAnswer p q ⌝ }
+{
+    if !proper::is_proper(p) {
+        return unranked(rules::NOT_PROPER, p, q);
+    }
+    if !proper::is_proper(q) {
+        return unranked(rules::NOT_PROPER, p, q);
+    }
+    if !play::same_deal(p, q) {
+        return unranked(ACCEPTED, p, q);
+    }
+    if p.step != q.step {
+        return unranked(ACCEPTED, p, q);
+    }
+    Compared {
+        refusal: ACCEPTED,
+        first: p,
+        second: q,
+        same: code::encode(p) == code::encode(q),
+    }
+}
+
+fn unranked(refusal: u8, p: Position, q: Position) -> Compared
+    ensures { λ r. ⌜ r ≡ record { refusal = refusal; first = p; second = q; same = false } ⌝ }
+{
+    Compared {
+        refusal: refusal,
+        first: p,
+        second: q,
+        same: false,
     }
 }

@@ -22,7 +22,7 @@ use Rattle.rules.proofs.Searches.{any-ext}
 use Rattle.rules.proofs.Steps.{any-more}
 use Rattle.rules.proofs.ProperMade.{none-any}
 use Rattle.rules.proofs.Collect.{eqb-sym}
-use Rattle.rules.proofs.VeilLaw.{pile-place}
+use Rattle.rules.proofs.PilePlaces.{pile-place}
 
 pub byte-num : (b : Bool) → boolByte b ≡ num b
 byte-num true = refl

@@ -12,14 +12,15 @@ use borrow.Author.Tests.{eqb-true, eq-eqb, ltb-true, lt-ltb, leb-true, le-leb}
 use Rattle.rules.specs.declared.Position.{Position}
 use Rattle.rules.specs.declared.TurnedUp.{TurnedUp}
 use Rattle.rules.specs.declared.TurnedUp.the-variants.{Nothing, Emptied, Card}
-use Rattle.rules.specs.Bits.{anyOf, allOf, firstOf}
-use Rattle.rules.specs.Places.{pileStart, cardAt, pileCard, count, hasHead, head, isHead, isBuried, isLocked, pileOf}
+use Rattle.rules.specs.Bits.{allOf, firstOf}
+use Rattle.rules.specs.Places.{cardAt, pileCard, count, hasHead, head, isHead, isBuried, isLocked, pileOf, alone}
 use Rattle.rules.specs.Code.{countsField, pileField, fieldCount, codeCount, codePiles, table}
 use Rattle.rules.specs.Play.{withCounts, shown, hidden, turned, turnedBack, under}
 use Rattle.rules.specs.Hidden.{placed, headOf, bareOf, headIn, buriedIn, lockedIn, aloneIn, headPile, barePile, oneLess, oneMore, underIn, coveredIn, allUp}
 use Rattle.rules.proofs.Searches.{and-left, and-right, and-both, any-yes, yes-any, any-ext, first-yes}
 use Rattle.rules.proofs.Steps.{first-at, first-none}
-use Rattle.rules.proofs.VeilLaw.{alone, pile-place, one-place, same-test}
+use Rattle.rules.proofs.Placed.{pile-of}
+use Rattle.bits.proofs.Tables.{same-test}
 use Rattle.rules.proofs.Facts.{Facts}
 
 -- ---- the sets
@@ -53,18 +54,7 @@ alone-is p c = any-ext 7 _ _ (λ i l. one-down (getD (p .counts) i 0) (λ k. eqb
 module _ (p : Position) (f : Facts p) where
   -- a card at one place of the piles is dealt to that pile alone
   dealt-to : (c i k : ℕ) → i < 7 → k ≤ i → pileCard p i k ≡ c → pileOf p c ≡ i
-  unfolding pileOf pileCard
-  dealt-to c i k l m e =
-      first-at 7 (λ j. anyOf (j + 1) (λ h. eqb (cardAt p (pileStart j + h)) c)) i l earlier
-      (yes-any (i + 1) (λ h. eqb (cardAt p (pileStart i + h)) c) k (omega arith) (eq-eqb (cardAt p (pileStart i + k)) c e))
-    where
-      earlier : (j : ℕ) → j < i → anyOf (j + 1) (λ h. eqb (cardAt p (pileStart j + h)) c) ≡ true → ⊥
-      earlier j s t =
-          let u = any-yes (j + 1) (λ h. eqb (cardAt p (pileStart j + h)) c) t in
-          let v : u .0 ≤ j = omega (arith, u .1) in
-          let w : cardAt p (pileStart j + u .0) ≡ c = eqb-true (cardAt p (pileStart j + u .0)) c (u .2) in
-          let same = f .differ (pileStart j + u .0) (pileStart i + k) (pile-place j (u .0) (omega arith) v) (pile-place i k l m) (w ∙ sym e) in
-          omega (arith, one-place j (u .0) i k (omega arith) v l m same .0)
+  dealt-to c i k l m e = ap (pileOf p) (sym e) ∙ pile-of p (f .deal) i k l m
 
   -- a search that finds a card at a place of each pile finds the pile that the card was dealt to
   module _ (c : ℕ) (has : ℕ → Bool) (at : ℕ → ℕ) (inside : (i : ℕ) → i < 7 → has i ≡ true → at i ≤ i) where

@@ -3,20 +3,20 @@
 use mathlib.Core.Bool.{Bool, true, false}
 use mathlib.Core.Path.{_≡_, refl, sym, ap, ap₂, _∙_}
 use mathlib.Core.Logic.{_⊎_, inl, inr, ⊎-elim}
-use mathlib.Core.List.{List, [], _∷_, _++_}
+use mathlib.Core.List.{List, []}
 use Prim.Native.Nat.{ℕ, zero, suc, _+_, _*_, _%_, _^_, _≤_, _<_, zero-le}
 use native.Mathlib.Nat.{zero-add, suc-add}
 use native.Mathlib.Omega.{arith}
 use lib.Dec.{ltb, lit<}
 use lib.ListN.{length, length-append}
 use borrow.Author.Tests.{eq-eqb, ne-eqb, ltb-true, ltb-false}
+use Rattle.rules.proofs.Among.{times-append}
 use Rattle.bits.proofs.Laws.{bit-high}
 use Rattle.bits.proofs.Counts.{list-length}
 use Rattle.rules.specs.declared.Masks.{Masks}
-use Rattle.rules.specs.Bits.{num, consIf, bit, listOf}
+use Rattle.rules.specs.Bits.{num, consIf, bit, listOf, times}
 use Rattle.rules.specs.Legal.{listed, listing}
 use Rattle.rules.specs.Pruned.{size}
-use Rattle.rules.specs.Demands.{times}
 use Rattle.rules.specs.Moves.{CardMasks, ofKind, moveCount}
 
 -- ---- a list of numbers below n alone
@@ -50,11 +50,6 @@ listing-length m w =
     simp (length-append, listed-length 4 (m .reveal) (w .reveal), listed-length 1 (m .«pile_stack») (w .«pile_stack»), listed-length 2 (m .«deck_pile») (w .«deck_pile»), listed-length 0 (m .«deck_stack») (w .«deck_stack»), listed-length 3 (m .«stack_pile») (w .«stack_pile»))
 
 -- ---- how often a number is listed
-
-pub times-append : (x : ℕ) (a b : List ℕ) → times x (a ++ b) ≡ times x a + times x b
-unfolding times
-times-append x [] b = omega arith
-times-append x (y ∷ a) b = omega (arith, times-append x a b)
 
 times-cons : (x s : ℕ) (b : Bool) (l : List ℕ) → (s ≡ x → ⊥) → times x (consIf b s l) ≡ times x l
 unfolding times

@@ -10,11 +10,10 @@ use lib.Pow.{pow-mono}
 use Rattle.bits.proofs.Laws.{bit-mask, mask-lt, bit-high, few-bits}
 use Rattle.bits.proofs.Tables.{true-T}
 use Rattle.rules.specs.declared.Position.{Position}
-use Rattle.rules.specs.Bits.{num, bit}
-use Rattle.rules.specs.Proper.{proper}
+use Rattle.rules.specs.Bits.{num, bit, Within, times}
+use Rattle.rules.specs.Proper.{proper, Shaped}
 use Rattle.rules.specs.Legal.{deckStackLegal, pileStackLegal, deckPileLegal, stackPileLegal, revealLegal, unpruned, legal, listing}
 use Rattle.rules.specs.Pruned.{pruned}
-use Rattle.rules.specs.Demands.{Shaped, Within, times}
 use Rattle.rules.specs.Moves.{CardMasks, ofKind}
 use Rattle.rules.proofs.PrunedLaw.{pruned-within}
 use Rattle.rules.proofs.ListingLaw.{listed-once}

@@ -34,7 +34,7 @@ told-same zero s a b e h = ap (λ (x : Bool). 0 ∷ num x ∷ []) (h refl) ∙ a
 told-same (suc r) s a b e h = ap (λ (n : ℕ). n ∷ num (accepted n b false) ∷ []) e
 
 -- the four tests of a deal, and then x
-abbrev four : Bool → Bool → Bool → Bool → ℕ → ℕ
+abbrev pub four : Bool → Bool → Bool → Bool → ℕ → ℕ
 four a b c e x = not a refuses wrongStep else not b refuses wrongLength else not c refuses noCard else not e refuses sameCard else x
 
 abbrev pub firstFour : List ℕ → ℕ → ℕ → ℕ
@@ -46,13 +46,20 @@ pub record Dealt (d : List ℕ) (step : ℕ) : Type 0 where
   pub cards : areCards d ≡ true
   pub different : areDifferent d ≡ true
 
-pub four-passed : (d : List ℕ) (step x : ℕ) → firstFour d step x ≡ 0 → Dealt d step
-four-passed d step x h =
+passed : (d : List ℕ) (step x : ℕ) → firstFour d step x ≡ 0 → Dealt d step × (x ≡ 0)
+passed d step x h =
     let g1 = goes-well (stepRight step) wrongStep _ (omega arith) h in
     let g2 = goes-well (eqb (length d) 52) wrongLength _ (omega arith) (g1 .1) in
     let g3 = goes-well (areCards d) noCard _ (omega arith) (g2 .1) in
     let g4 = goes-well (areDifferent d) sameCard _ (omega arith) (g3 .1) in
-    record { fair = g1 .0; long = eqb-true (length d) 52 (g2 .0); cards = g3 .0; different = g4 .0 }
+    (record { fair = g1 .0; long = eqb-true (length d) 52 (g2 .0); cards = g3 .0; different = g4 .0 }, g4 .1)
+
+pub four-passed : (d : List ℕ) (step x : ℕ) → firstFour d step x ≡ 0 → Dealt d step
+four-passed d step x h = passed d step x h .0
+
+-- and the rest refuses nothing
+pub four-rest : (d : List ℕ) (step x : ℕ) → firstFour d step x ≡ 0 → x ≡ 0
+four-rest d step x h = passed d step x h .1
 
 pub deal-passed : (d : List ℕ) (step : ℕ) → dealRefusal d step ≡ 0 → Dealt d step
 unfolding dealRefusal
@@ -69,3 +76,8 @@ four-first false b c e x = refl
 pub deal-first : (d : List ℕ) (step x : ℕ) → firstFour d step x ≡ accepted (dealRefusal d step) x (dealRefusal d step)
 unfolding dealRefusal
 deal-first d step x = four-first (stepRight step) (eqb (length d) 52) (areCards d) (areDifferent d) x
+
+-- the refusal of a deal by what its four tests say
+pub deal-tests : (d : List ℕ) (step : ℕ) (a b c e : Bool) → stepRight step ≡ a → eqb (length d) 52 ≡ b → areCards d ≡ c → areDifferent d ≡ e → four a b c e 0 ≡ dealRefusal d step
+unfolding dealRefusal
+deal-tests d step a b c e ea eb ec ee = rw (ea, eb, ec, ee)

@@ -10,7 +10,7 @@ use borrow.Author.Tests.{ltb-true, ltb-false}
 use Rattle.rules.specs.Bits.{num, countOf, allOf, anyOf, firstOf}
 use Rattle.rules.specs.Hidden.{sumOf}
 use Rattle.rules.proofs.Searches.{and-both, all-yes, all-snoc, any-snoc, count-snoc, first-yes, first-least, first-le}
-use Rattle.rules.proofs.VeilLaw.{same-test}
+use Rattle.bits.proofs.Tables.{same-test}
 
 pub all-more : (n : ℕ) (f : ℕ → Bool) → allOf n f ≡ true → f n ≡ true → allOf (n + 1) f ≡ true
 all-more n f h e = ap (λ (j : ℕ). allOf j f) (add-one n) ∙ all-snoc n f ∙ and-both (allOf n f) (f n) h e

@@ -5,7 +5,7 @@ use Prim.Native.Nat.{ℕ, _+_, _^_, _<_}
 use lib.Dec.{eqb, ltb}
 use lib.ListN.{length, drop}
 use Rattle.rules.specs.declared.Masks.{Masks}
-use Rattle.rules.specs.Bits.{maskOf}
+use Rattle.rules.specs.Bits.{maskOf, Within}
 use Rattle.rules.specs.Legal.{byKind, listing}
 use Rattle.rules.specs.Pruned.{_∪_, _∖_, size}
 
@@ -16,6 +16,15 @@ pub record CardMasks (m : Masks) : Type 0 where
   pub «deck_pile» : m .«deck_pile» < 2 ^ 52
   pub «deck_stack» : m .«deck_stack» < 2 ^ 52
   pub «stack_pile» : m .«stack_pile» < 2 ^ 52
+
+-- every mask of m lies within that of n
+abbrev pub AllWithin : Masks → Masks → Type 0
+AllWithin m n =
+    Within (m .reveal) (n .reveal)
+    × Within (m .«pile_stack») (n .«pile_stack»)
+    × Within (m .«deck_pile») (n .«deck_pile»)
+    × Within (m .«deck_stack») (n .«deck_stack»)
+    × Within (m .«stack_pile») (n .«stack_pile»)
 
 -- the mask of a kind
 unfoldable pub ofKind : Masks → ℕ → ℕ

@@ -1,7 +1,7 @@
 -- `code::arranged` meets its contract.
 -- Assumes nothing.
 use mathlib.Core.Bool.{Bool, true, false, _&&_, and-false}
-use mathlib.Core.Path.{_≡_, sym, ap, ap₂, _∙_}
+use mathlib.Core.Path.{_≡_, refl, sym, ap, ap₂, _∙_}
 use Prim.Native.Nat.{ℕ, _+_}
 use native.Mathlib.Omega.{arith}
 use lib.Dec.{ltb, leb}
@@ -14,10 +14,10 @@ use Rattle.rules.specs.Places.{isFree}
 use Rattle.rules.specs.Proper.{pairRule, sevenRule}
 use Rattle.rules.specs.Play.{withVisible}
 use Rattle.rules.specs.Answers.{overlaps}
-use Rattle.rules.proofs.Searches.{count-le}
+use Rattle.rules.proofs.Searches.{and-both, count-le}
 use Rattle.code.specs.Starts.{worked, arrangeRefusal, arrangeAnswer}
 use Rattle.code.proofs.Answered.{is-refused, is-started}
-use Rattle.code.proofs.Arranging.{freeOf, visible-is, meets-is, free-is, pairs-is, seven-is, refused-8, refused-9, arrange-passed}
+use Rattle.code.proofs.Arranging.{freeOf, visible-is, meets-is, free-is, pairs-is, seven-is, arrange-tests}
 use Rattle.code.proofs.arranged.Statement.{statement}
 use Rattle.code.proofs.arranged.Tie as tie
 
@@ -42,7 +42,7 @@ returns c =
     let a = c .before .before .before .before .before .before in
     let p = a .before .args .p in
     c .refused .ensures
-    ∙ is-refused 8 (arrangeRefusal (worked p)) (worked p) (refused-8 (worked p) (not-false _ (sym (meets-is p _ (a .sets-of .ensures)) ∙ ne-eqb _ 0 (c .before .if1 .taken)))) (λ e. omega arith)
+    ∙ is-refused 8 (arrangeRefusal (worked p)) (worked p) (arrange-tests (worked p) true _ (not-false _ (sym (meets-is p _ (a .sets-of .ensures)) ∙ ne-eqb _ 0 (c .before .if1 .taken))) refl) (λ e. omega arith)
 
 pair-rule-requires : tie.Need-pair-rule-requires
 pair-rule-requires c κs = search needs
@@ -57,7 +57,7 @@ returns-2 c =
     let p = r .before .before .before .before .before .before .before .before .before .before .args .p in
     let broken : pairRule (worked p) ≡ false = sym (pairs r) ∙ not-true _ (c .before .if2 .taken) in
     c .refused2 .ensures
-    ∙ is-refused 9 (arrangeRefusal (worked p)) (worked p) (refused-9 (worked p) (apart (r .before .before .before .before)) (ap (λ (b : Bool). b && sevenRule (worked p)) broken)) (λ e. omega arith)
+    ∙ is-refused 9 (arrangeRefusal (worked p)) (worked p) (arrange-tests (worked p) false false (apart (r .before .before .before .before)) (ap (λ (b : Bool). b && sevenRule (worked p)) broken)) (λ e. omega arith)
 
 count-heads-requires : tie.Need-count-heads-requires
 count-heads-requires c κs = search needs
@@ -83,7 +83,7 @@ returns-3 c =
     let p = k .before .before .before .before .before .before .before .before .before .before .before .before .before .before .args .p in
     let broken : sevenRule (worked p) ≡ false = sym (seven k) ∙ lt-leb _ 7 (c .before .if3 .taken) in
     c .refused3 .ensures
-    ∙ is-refused 9 (arrangeRefusal (worked p)) (worked p) (refused-9 (worked p) (apart (k .before .before .before .before .before .before .before .before)) (ap (λ (b : Bool). pairRule (worked p) && b) broken ∙ and-false (pairRule (worked p)))) (λ e. omega arith)
+    ∙ is-refused 9 (arrangeRefusal (worked p)) (worked p) (arrange-tests (worked p) false false (apart (k .before .before .before .before .before .before .before .before)) (ap (λ (b : Bool). pairRule (worked p) && b) broken ∙ and-false (pairRule (worked p)))) (λ e. omega arith)
 
 returns-4 : tie.Need-returns-4
 unfolding arrangeAnswer withVisible
@@ -91,7 +91,7 @@ returns-4 c =
     let k = c .before in
     let p = k .before .before .before .before .before .before .before .before .before .before .before .before .before .before .args .p in
     is-started (arrangeRefusal (worked p)) (worked p) _
-    (arrange-passed (worked p) (apart (k .before .before .before .before .before .before .before .before)) (sym (pairs (k .before .before .before .before)) ∙ not-false _ (k .before .before .before .if2 .left)) (sym (seven k) ∙ le-leb _ 7 (c .if3 .left)))
+    (sym (arrange-tests (worked p) false true (apart (k .before .before .before .before .before .before .before .before)) (and-both _ _ (sym (pairs (k .before .before .before .before)) ∙ not-false _ (k .before .before .before .if2 .left)) (sym (seven k) ∙ le-leb _ 7 (c .if3 .left)))))
     (ap (withVisible p) (visible-is p _ (k .before .before .before .before .before .before .before .before .before .before .before .before .before .sets-of .ensures)))
 
 pub arranged-spec : {M : Type 1} → statement M

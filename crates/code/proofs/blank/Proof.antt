@@ -1,6 +1,5 @@
 -- `code::blank` meets its contract.
 -- Assumes nothing.
-use borrow.Author.Needs.{needs}
 use mathlib.Core.Path.{refl}
 use Rattle.rules.specs.Code.{blank}
 use Rattle.code.proofs.blank.Statement.{statement}

@@ -1,7 +1,7 @@
 -- `code::deal` meets its contract.
 -- Assumes nothing.
 use borrow.Author.Needs.{needs}
-use mathlib.Core.Path.{_≡_, sym, ap, _∙_}
+use mathlib.Core.Path.{sym, ap, _∙_}
 use mathlib.Core.List.{List}
 use Prim.Native.Nat.{ℕ}
 use native.Mathlib.Omega.{arith}
@@ -9,7 +9,7 @@ use lib.ListN.{getD}
 use Rattle.rules.specs.Code.{fresh}
 use Rattle.rules.specs.Answers.{dealRefusal, dealAnswer}
 use Rattle.rules.proofs.Refusing.{Dealt, deal-passed}
-use Rattle.proper.proofs.DealRight.{cards-low}
+use Rattle.rules.proofs.DealLaw.{cards-low}
 use Rattle.code.proofs.Answered.{is-refused, is-started}
 use Rattle.code.proofs.deal.Statement.{statement}
 use Rattle.code.proofs.deal.Tie as tie

@@ -1,7 +1,7 @@
 -- `code::resume` meets its contract.
 -- Assumes nothing.
 use mathlib.Core.Bool.{Bool, true, false, not, cond}
-use mathlib.Core.Path.{_≡_, sym, ap, ap₂, _∙_, subst}
+use mathlib.Core.Path.{_≡_, refl, sym, ap, ap₂, _∙_, subst}
 use mathlib.Core.List.{List}
 use Prim.Native.Nat.{ℕ, _≤_, _<_}
 use native.Mathlib.Omega.{arith}
@@ -14,21 +14,24 @@ use Rattle.rules.specs.declared.Position.{Position}
 use Rattle.rules.specs.Bits.{anyOf}
 use Rattle.rules.specs.Foundations.{validOn}
 use Rattle.rules.specs.Code.{table, fieldCount, codeHeight, codePiles, codeCount, codeHas, codeLeft, codeOffset, storedOffset, deckOf, codeParts, resumed}
-use Rattle.rules.specs.Answers.{offsetWrong, resumeAnswer}
+use Rattle.rules.specs.Answers.{dealRefusal, offsetWrong, resumeAnswer}
 use Rattle.rules.proofs.ProperMade.{step-low}
 use Rattle.rules.proofs.Refusing.{Dealt, deal-passed}
 use Rattle.code.specs.declared.Fields.{Fields}
 use Rattle.code.specs.Starts.{startedBy, fieldsOf, Ranged, arrangeAnswer}
 use Rattle.code.proofs.Answered.{is-refused}
 use Rattle.code.proofs.Parts.{heights-is, valid-is, left-is, deck-is, parts-are, ranged}
-use Rattle.code.proofs.Ends.{offset-high, offset-unstored, offset-right, refused-deal, refused-5, refused-6, refused-7, refused-later}
+use Rattle.code.proofs.Ends.{offset-high, offset-unstored, offset-right, refused-deal, resume-tests}
 use Rattle.code.proofs.resume.Statement.{statement}
 use Rattle.code.proofs.resume.Tie as tie
 
 -- ---- what is decoded, and what each passed test says
 
+unrefused : (c : tie.Else1) → dealRefusal (c .before .before .before .args .cards .now) (c .before .before .before .args .step) ≡ 0
+unrefused c = sym (c .before .deal-refusal .ensures) ∙ c .if1 .left
+
 dealt : (c : tie.Else1) → Dealt (c .before .before .before .args .cards .now) (c .before .before .before .args .step)
-dealt c = deal-passed _ _ (sym (c .before .deal-refusal .ensures) ∙ c .if1 .left)
+dealt c = deal-passed _ _ (unrefused c)
 
 heights : (c : tie.After-decode) → c .decode .result ≡ table 4 (codeHeight (c .before .before .before .before .before .args .code))
 unfolding fieldsOf
@@ -117,7 +120,7 @@ returns-2 : tie.Need-returns-2
 unfolding resumeAnswer
 returns-2 c =
     let v = c .before .before in
-    c .refused2 .ensures ∙ is-refused 5 _ _ (refused-5 _ _ _ (dealt (v .before .before .before)) (not-false _ (sym (valid v) ∙ not-true _ (c .before .if2 .taken)))) (λ e. omega arith)
+    c .refused2 .ensures ∙ is-refused 5 _ _ (resume-tests _ _ _ (unrefused (v .before .before .before)) true _ _ (not-false _ (sym (valid v) ∙ not-true _ (c .before .if2 .taken))) refl refl) (λ e. omega arith)
 
 decode-requires-2 : tie.Need-decode-requires-2
 decode-requires-2 c κs = search needs
@@ -130,7 +133,7 @@ unfolding resumeAnswer
 returns-3 c =
     let d = c .before .before .before in
     c .refused3 .ensures
-    ∙ is-refused 6 _ _ (refused-6 _ _ _ (dealt (d .before .before .before .before .before)) (low (d .before)) (le-leb 40320 _ (ltb-false (codePiles (d .before .before .before .before .before .before .before .before .args .code)) 40320 (sym (fits d) ∙ not-true _ (c .before .if3 .taken))))) (λ e. omega arith)
+    ∙ is-refused 6 _ _ (resume-tests _ _ _ (unrefused (d .before .before .before .before .before)) false true _ (low (d .before)) (le-leb 40320 _ (ltb-false (codePiles (d .before .before .before .before .before .before .before .before .args .code)) 40320 (sym (fits d) ∙ not-true _ (c .before .if3 .taken)))) refl) (λ e. omega arith)
 
 as-deal-requires : tie.Need-as-deal-requires
 as-deal-requires c κs = dealt (c .before .before .before .before .before .before .before .before) .long
@@ -148,7 +151,7 @@ returns-4 c =
     let e = k .before .before .before .before in
     let l : codeLeft (k .before .before .before .before .before .before .before .before .before .before .before .before .before .before .args .code) < codeOffset (k .before .before .before .before .before .before .before .before .before .before .before .before .before .before .args .code) = omega (arith, left (k .before), offset (k .before .before .before .before .before .before .before .before .before .before), c .before .if4 .taken) in
     c .refused4 .ensures
-    ∙ is-refused 7 _ _ (refused-7 _ _ _ (dealt (e .before .before .before .before .before .before .before)) (low (e .before .before .before)) (not-many e) (offset-high _ _ l)) (λ z. omega arith)
+    ∙ is-refused 7 _ _ (resume-tests _ _ _ (unrefused (e .before .before .before .before .before .before .before)) false false true (low (e .before .before .before)) (not-many e) (offset-high _ _ l)) (λ z. omega arith)
 
 normalized-offset-requires : tie.Need-normalized-offset-requires
 normalized-offset-requires c κs = step-low _ (dealt (c .before .before .before .before .before .before .before .before .before .before .before .before) .fair)
@@ -162,7 +165,7 @@ returns-5 c =
     let n = c .before .before in
     let e = n .before .before .before .before .before .before in
     c .refused5 .ensures
-    ∙ is-refused 7 _ _ (refused-7 _ _ _ (dealt (e .before .before .before .before .before .before .before)) (low (e .before .before .before)) (not-many e) (offset-unstored _ _ (sym (stored n) ∙ ne-eqb _ _ (c .before .if5 .taken)))) (λ z. omega arith)
+    ∙ is-refused 7 _ _ (resume-tests _ _ _ (unrefused (e .before .before .before .before .before .before .before)) false false true (low (e .before .before .before)) (not-many e) (offset-unstored _ _ (sym (stored n) ∙ ne-eqb _ _ (c .before .if5 .taken)))) (λ z. omega arith)
 
 arranged-requires : tie.Need-arranged-requires
 arranged-requires c κs = let g = dealt (c .before .before .before .before .before .before .before .before .before .before .before .before .before .before) in subst Ranged (sym (parts c)) (ranged _ _ _ (g .long) (g .cards) (low (c .before .before .before .before .before .before .before .before .before .before)))
@@ -173,7 +176,7 @@ returns-6 c =
     let e = c .before in
     let s = e .before .before .before .before .before .before .before .before .before .before .before .before .before .before .before .before .before .args in
     c .arranged .ensures ∙ ap arrangeAnswer (parts e)
-    ∙ ap (λ (r : ℕ). startedBy r (resumed (s .cards .now) (s .step) (s .code))) (refused-later _ _ _ (dealt (e .before .before .before .before .before .before .before .before .before .before .before .before .before .before)) (low (e .before .before .before .before .before .before .before .before .before .before)) (not-many (e .before .before .before .before .before .before .before)) (right e))
+    ∙ ap (λ (r : ℕ). startedBy r (resumed (s .cards .now) (s .step) (s .code))) (resume-tests _ _ _ (unrefused (e .before .before .before .before .before .before .before .before .before .before .before .before .before .before)) false false false (low (e .before .before .before .before .before .before .before .before .before .before)) (not-many (e .before .before .before .before .before .before .before)) (right e))
 
 pub resume-spec : {M : Type 1} → statement M
 resume-spec =

@@ -17,7 +17,7 @@ use Rattle.rules.specs.Places.{pileStart, pileCard, cardAt, count, hasHead, hea
 use Rattle.rules.specs.Proper.{proper}
 use Rattle.rules.proofs.Facts.{facts}
 use Rattle.rules.proofs.HeadsLaw.{head-low, free-mask}
-use Rattle.rules.proofs.VeilLaw.{pile-place}
+use Rattle.rules.proofs.PilePlaces.{pile-place}
 use Rattle.piles.proofs.Reading.{Reads}
 use Rattle.piles.proofs.Turn.{Shown, none-yet, head-turn, empty-turn, all-shown}
 use borrow.Author.Needs.{needs}

@@ -1,0 +1,41 @@
+-- Comparing two positions: the bytes of two lists, and that of two positions of one deal the deal need not be compared.
+-- Assumes nothing.
+use mathlib.Core.Bool.{Bool, true, false, _&&_}
+use mathlib.Core.Path.{_≡_, refl, sym, ap, _∙_}
+use mathlib.Core.List.{List}
+use Prim.Native.Nat.{ℕ, _≤_, _<_}
+use native.Mathlib.Omega.{arith}
+use lib.Dec.{eqb}
+use lib.ListN.{length, getD, take}
+use lib.Seq.{length-take-le, getD-take, ext-getD}
+use Rattle.rules.specs.declared.Position.{Position}
+use Rattle.rules.specs.Bits.{sameList}
+use Rattle.rules.specs.History.{samePosition}
+use Rattle.rules.proofs.Searches.{same-list, list-same, is-false}
+use Rattle.play.specs.Made.{sameDeck, sameInDeal}
+
+module _ (a b : List ℕ) (n : ℕ) (la : n ≤ length a) (lb : n ≤ length b) where
+  pub bytes-same : ((k : ℕ) → k < n → getD a k 0 ≡ getD b k 0) → sameList (take n a) (take n b) ≡ true
+  bytes-same h = ap (sameList (take n a)) (sym e) ∙ list-same (take n a)
+    where
+      e : take n a ≡ take n b
+      e =
+          ext-getD 0 (take n a) (take n b) (length-take-le n a la ∙ sym (length-take-le n b lb))
+          (λ k l. let m : k < n = omega (arith, length-take-le n a la) in getD-take n a k 0 m ∙ h k m ∙ sym (getD-take n b k 0 m))
+
+  pub bytes-differ : (i : ℕ) → i < n → (getD a i 0 ≡ getD b i 0 → ⊥) → sameList (take n a) (take n b) ≡ false
+  bytes-differ i l d =
+      is-false (sameList (take n a) (take n b))
+      (λ e. d (sym (getD-take n a i 0 l) ∙ ap (λ (x : List ℕ). getD x i 0) (same-list (take n a) (take n b) e) ∙ getD-take n b i 0 l))
+
+and-assoc : (a b c : Bool) → (a && b && c) ≡ (a && (b && c))
+and-assoc true b c = refl
+and-assoc false b c = refl
+
+pub same-is : (p q : Position) → p .deal ≡ q .deal → samePosition p q ≡ sameInDeal p q
+unfolding samePosition sameInDeal sameDeck
+same-is p q d =
+    ap (λ (x : Bool). x && eqb (p .step) (q .step) && sameList (p .counts) (q .counts) && sameList (p .heights) (q .heights) && eqb (p .left) (q .left) && sameList (take (p .left) (p .deck)) (take (q .left) (q .deck)) && eqb (p .offset) (q .offset) && eqb (p .visible) (q .visible))
+    (ap (sameList (p .deal)) (sym d) ∙ list-same (p .deal))
+    ∙ ap (λ (x : Bool). x && eqb (p .offset) (q .offset) && eqb (p .visible) (q .visible))
+    (and-assoc (eqb (p .step) (q .step) && sameList (p .counts) (q .counts) && sameList (p .heights) (q .heights)) (eqb (p .left) (q .left)) (sameList (take (p .left) (p .deck)) (take (q .left) (q .deck))))

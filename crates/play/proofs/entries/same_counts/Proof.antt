@@ -1,0 +1,34 @@
+-- `play::entries::same_counts` meets its contract.
+-- Assumes nothing.
+use borrow.Author.Needs.{needs}
+use mathlib.Core.Path.{_≡_, refl, sym, ap, _∙_, subst}
+use mathlib.Core.List.{List}
+use mathlib.Core.Path.{ap₂}
+use native.Mathlib.Omega.{arith}
+use lib.Seq.{take-all}
+use Rattle.rules.specs.Bits.{sameList}
+use Rattle.rules.proofs.Shape.{shape}
+use Rattle.play.proofs.entries.same_counts.Statement.{statement}
+use Rattle.play.proofs.entries.same_counts.Tie as tie
+
+slice-aggregate-same-bytes : tie.Need-slice-aggregate-same-bytes
+slice-aggregate-same-bytes c = search needs
+
+slice-aggregate-same-bytes-2 : tie.Need-slice-aggregate-same-bytes-2
+slice-aggregate-same-bytes-2 c = search needs
+
+same-bytes-requires : tie.Need-same-bytes-requires
+same-bytes-requires c κs =
+    let b = c .before .before .before .before in
+    (omega (arith, shape (b .args .p) _ (b .good .0) .counts), omega (arith, shape (b .args .q) _ (b .good .1 .0) .counts))
+
+returns : tie.Need-returns
+returns c =
+    let b = c .before .before .before .before .before in
+    c .same-bytes .ensures
+    ∙ ap₂ sameList (take-all 7 (b .args .p .counts) (omega (arith, shape (b .args .p) _ (b .good .0) .counts))) (take-all 7 (b .args .q .counts) (omega (arith, shape (b .args .q) _ (b .good .1 .0) .counts)))
+
+pub same-counts-spec : {M : Type 1} → statement M
+same-counts-spec =
+    tie.close
+    (tie.spec slice-aggregate-same-bytes slice-aggregate-same-bytes-2 same-bytes-requires returns)
