@@ -41,7 +41,7 @@ fn move_of(kind: u8, card: u8) -> Move {
     }
 }
 
-fn number_of(m: Move) -> u16 {
+pub fn number_of(m: Move) -> u16 {
     let (kind, card) = match m {
         Move::DeckStack(c) => (0, c),
         Move::PileStack(c) => (1, c),
@@ -74,6 +74,11 @@ impl Oracle {
         let mut o = Self::fresh(step, deal);
         o.0.decode(code);
         o
+    }
+
+    /// `decode` alone, over a state of the same deal and step.
+    pub fn decode(&mut self, code: u64) {
+        self.0.decode(code);
     }
 
     /// `SolitaireEngine::decode`, the checked one: the state, or none where it says no.

@@ -1,0 +1,76 @@
+//! The exported inner calls, and the position as they take it.
+
+#[repr(C)]
+#[derive(Clone, Copy, PartialEq, Debug)]
+pub struct Position {
+    pub deal: [u8; 52],
+    pub step: u8,
+    pub counts: [u8; 7],
+    pub heights: [u8; 4],
+    pub deck: [u8; 24],
+    pub left: u8,
+    pub offset: u8,
+    pub visible: u64,
+}
+
+#[repr(C)]
+#[derive(Clone, Copy, PartialEq, Debug)]
+pub struct Masks {
+    pub reveal: u64,
+    pub pile_stack: u64,
+    pub deck_pile: u64,
+    pub deck_stack: u64,
+    pub stack_pile: u64,
+}
+
+#[repr(C)]
+#[derive(Clone, Copy)]
+pub struct Started {
+    pub refusal: u8,
+    pub position: Position,
+}
+
+// A slice that is lent goes as its address and its length.
+extern "C" {
+    pub fn inside_nothing(p: Position) -> u64;
+    pub fn inside_is_proper(p: Position) -> bool;
+    pub fn inside_masks(p: Position) -> Masks;
+    pub fn inside_pruned(p: Position) -> Masks;
+    pub fn inside_is_valid_move(p: Position, kind: u8, card: u8) -> bool;
+    pub fn inside_list(m: Masks, out: *mut u16, len: usize) -> usize;
+    pub fn inside_piles(p: Position, out: *mut u8, len: usize) -> u8;
+    pub fn inside_offset(p: Position, n: u8) -> u8;
+    pub fn inside_find(p: Position, card: u8) -> u8;
+    pub fn inside_save(p: Position) -> u64;
+    pub fn inside_resume(step: u8, cards: *const u8, len: usize, code: u64) -> Started;
+}
+
+impl From<&model::types::Position> for Position {
+    fn from(p: &model::types::Position) -> Self {
+        Self {
+            deal: p.deal,
+            step: p.step,
+            counts: p.counts,
+            heights: p.heights,
+            deck: p.deck,
+            left: p.left,
+            offset: p.offset,
+            visible: p.visible,
+        }
+    }
+}
+
+impl From<&Position> for model::types::Position {
+    fn from(p: &Position) -> Self {
+        Self {
+            deal: p.deal,
+            step: p.step,
+            counts: p.counts,
+            heights: p.heights,
+            deck: p.deck,
+            left: p.left,
+            offset: p.offset,
+            visible: p.visible,
+        }
+    }
+}
