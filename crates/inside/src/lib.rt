@@ -3,7 +3,9 @@ ghost use Prim.Native.Nat.{_<_, _≤_};
 ghost use lib.Dec.{T};
 ghost use lib.ListN.{length};
 ghost use Rattle.rules.specs.Proper.{proper};
+ghost use Rattle.rules.specs.Legal.{legal};
 ghost use Rattle.rules.specs.Moves.{CardMasks};
+ghost use Rattle.play.specs.Made.{hasWay};
 use rules::Masks;
 use rules::Position;
 use rules::Started;
@@ -83,4 +85,30 @@ pub extern "C" fn inside_save(p: Position) -> u64
 #[no_mangle]
 pub extern "C" fn inside_resume(step: u8, cards: &[u8], code: u64) -> Started {
     code::resume(step, cards, code)
+}
+
+// What a move leads to, and the byte that its undo needs.
+#[repr(C)]
+pub struct Step {
+    pub position: Position,
+    pub byte: u8,
+}
+
+#[no_mangle]
+pub extern "C" fn inside_do_move(p: Position, kind: u8, card: u8) -> Step
+    requires { ⌜ T (proper p) × T (legal p kind card) ⌝ }
+{
+    let made = play::do_move(p, kind, card);
+    let q = made.position;
+    Step {
+        position: q,
+        byte: made.byte,
+    }
+}
+
+#[no_mangle]
+pub extern "C" fn inside_undo_move(p: Position, byte: u8, kind: u8, card: u8) -> Position
+    requires { ⌜ T (proper p) × T (hasWay p byte kind card) ⌝ }
+{
+    play::undo_move(p, byte, kind, card)
 }

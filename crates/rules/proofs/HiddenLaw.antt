@@ -13,10 +13,10 @@ use Rattle.rules.specs.declared.Position.{Position}
 use Rattle.rules.specs.declared.TurnedUp.{TurnedUp}
 use Rattle.rules.specs.declared.TurnedUp.the-variants.{Nothing, Emptied, Card}
 use Rattle.rules.specs.Bits.{allOf, firstOf}
-use Rattle.rules.specs.Places.{cardAt, pileCard, count, hasHead, head, isHead, isBuried, isLocked, pileOf, alone}
+use Rattle.rules.specs.Places.{cardAt, pileCard, count, hasHead, head, isHead, isBuried, isLocked, isBase, pileOf}
 use Rattle.rules.specs.Code.{countsField, pileField, fieldCount, codeCount, codePiles, table}
 use Rattle.rules.specs.Play.{withCounts, shown, hidden, turned, turnedBack, under}
-use Rattle.rules.specs.Hidden.{placed, headOf, bareOf, headIn, buriedIn, lockedIn, aloneIn, headPile, barePile, oneLess, oneMore, underIn, coveredIn, allUp}
+use Rattle.rules.specs.Hidden.{placed, headOf, bareOf, headIn, buriedIn, lockedIn, baseIn, headPile, barePile, oneLess, oneMore, underIn, coveredIn, allUp}
 use Rattle.rules.proofs.Searches.{and-left, and-right, and-both, any-yes, yes-any, any-ext, first-yes}
 use Rattle.rules.proofs.Steps.{first-at, first-none}
 use Rattle.rules.proofs.Placed.{pile-of}
@@ -37,17 +37,9 @@ pub locked-in : (p : Position) (c : ℕ) → lockedIn (p .deal) (p .counts) c �
 unfolding lockedIn isLocked pileCard cardAt count
 locked-in p c = refl
 
--- the last of one place is the first
-one-down : (x : ℕ) (f : ℕ → Bool) → (eqb x 1 && f 0) ≡ (eqb x 1 && f (x - 1))
-one-down x f = go (eqb x 1) refl
-  where
-    go : (b : Bool) → eqb x 1 ≡ b → (b && f 0) ≡ (b && f (x - 1))
-    go true e = ap (λ (y : ℕ). f (y - 1)) (sym (eqb-true x 1 e))
-    go false e = refl
-
-pub alone-is : (p : Position) (c : ℕ) → aloneIn (p .deal) (p .counts) c ≡ alone p c
-unfolding aloneIn alone head pileCard cardAt count
-alone-is p c = any-ext 7 _ _ (λ i l. one-down (getD (p .counts) i 0) (λ k. eqb (placed (p .deal) i k) c))
+pub base-in : (p : Position) (c : ℕ) → baseIn (p .deal) c ≡ isBase p c
+unfolding baseIn isBase pileCard cardAt
+base-in p c = refl
 
 -- ---- the piles
 

@@ -34,9 +34,9 @@ headOf d n c i = ltb 0 (getD n i 0) && eqb (placed d i (getD n i 0 - 1)) c
 unfoldable pub headIn : List ℕ → List ℕ → ℕ → Bool
 headIn d n c = anyOf 7 (λ i. headOf d n c i)
 
--- a head with no card under it: it stands "at the base of its pile"
-unfoldable pub aloneIn : List ℕ → List ℕ → ℕ → Bool
-aloneIn d n c = anyOf 7 (λ i. eqb (getD n i 0) 1 && eqb (placed d i 0) c)
+-- "the base of its pile": the first card of one of the piles
+unfoldable pub baseIn : List ℕ → ℕ → Bool
+baseIn d c = anyOf 7 (λ i. eqb (placed d i 0) c)
 
 -- the pile whose head is c; the pile whose first card that is not locked is c, the card that a head left last. 7 where there is none
 unfoldable pub headPile : List ℕ → List ℕ → ℕ → ℕ

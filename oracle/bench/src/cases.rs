@@ -6,7 +6,7 @@ use compare::walk::kind_and_card;
 use lonelybot::harness::Oracle;
 use model::types::Position;
 
-pub const COUNT: usize = 1024;
+pub const COUNT: usize = 8192;
 
 /// One position for both sides, and what the calls are asked there.
 pub struct Case {
@@ -15,13 +15,12 @@ pub struct Case {
     pub asked: Asked,
 }
 
-/// A legal move and its undo byte, the save code, a number of deals, a card of the deck's 24.
+/// A legal move, the save code, a number of deals, a card of the deck's 24.
 #[repr(C)]
 #[derive(Clone, Copy)]
 pub struct Asked {
     pub kind: u8,
     pub card: u8,
-    pub byte: u8,
     pub code: u64,
     pub deals: u8,
     pub deck_card: u8,
@@ -36,7 +35,6 @@ fn case(rng: &mut Rng, p: &Position) -> Option<Case> {
     let asked = Asked {
         kind,
         card,
-        byte: model::play::undo_byte(p, kind, card),
         code: model::code::code(p),
         deals: rng.byte_below(30),
         deck_card: p.deal[28 + rng.below(24)],

@@ -13,8 +13,8 @@ use std::time::Instant;
 use things::{Thing, THINGS};
 
 const SEED: u64 = 1;
-const ROUNDS: usize = 400;
-const COUNTED_ROUNDS: usize = 2;
+const ROUNDS: usize = 100;
+const COUNTED_ROUNDS: usize = 1;
 
 /// Callgrind counts what happens in here.
 #[no_mangle]

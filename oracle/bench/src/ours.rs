@@ -30,6 +30,13 @@ pub struct Started {
     pub position: Position,
 }
 
+#[repr(C)]
+#[derive(Clone, Copy)]
+pub struct Step {
+    pub position: Position,
+    pub byte: u8,
+}
+
 // A slice that is lent goes as its address and its length.
 extern "C" {
     pub fn inside_nothing(p: Position) -> u64;
@@ -42,6 +49,8 @@ extern "C" {
     pub fn inside_offset(p: Position, n: u8) -> u8;
     pub fn inside_find(p: Position, card: u8) -> u8;
     pub fn inside_save(p: Position) -> u64;
+    pub fn inside_do_move(p: Position, kind: u8, card: u8) -> Step;
+    pub fn inside_undo_move(p: Position, byte: u8, kind: u8, card: u8) -> Position;
     pub fn inside_resume(step: u8, cards: *const u8, len: usize, code: u64) -> Started;
 }
 

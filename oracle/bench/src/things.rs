@@ -1,5 +1,5 @@
 //! The things that are measured: each is done by both sides on one case.
-use crate::cases::Case;
+use crate::cases::{Asked, Case};
 use crate::ours;
 use core::hint::black_box;
 use core::ops::ControlFlow;
@@ -60,6 +60,20 @@ fn piles(c: &Case) -> u8 {
     n
 }
 
+fn move_and_undo(c: &Case) -> ours::Position {
+    let Asked { kind, card, .. } = c.asked;
+    unsafe {
+        let step = ours::inside_do_move(c.p, kind, card);
+        ours::inside_undo_move(step.position, step.byte, kind, card)
+    }
+}
+
+fn rust_move_and_undo(c: &mut Case) {
+    let Asked { kind, card, .. } = c.asked;
+    let (byte, _) = c.rust.do_move(kind, card);
+    c.rust.undo_move(kind, card, byte);
+}
+
 /// It comes last, since it puts the stored offset into the state.
 fn rust_resume(c: &mut Case) -> bool {
     c.rust.decode(c.asked.code);
@@ -73,6 +87,7 @@ things! {
     "pruned masks", "gen_moves::<true>", Some(1.0), |c| unsafe { ours::inside_pruned(c.p) }, |c| c.rust.0.gen_moves::<true>();
     "list", "gen_moves::<false>, iter_moves", None, |c| list(c), |c| rust_list(c);
     "move test", "is_valid_move", None, |c| unsafe { ours::inside_is_valid_move(c.p, c.asked.kind, c.asked.card) }, |c| c.rust.is_valid_move(c.asked.kind, c.asked.card);
+    "move and undo", "do_move, undo_move", Some(1.5), |c| move_and_undo(c), |c| rust_move_and_undo(c);
     "save", "encode", Some(1.0), |c| unsafe { ours::inside_save(c.p) }, |c| c.rust.code();
     "face-up piles", "compute_visible_piles", Some(1.0), |c| piles(c), |c| c.rust.0.compute_visible_piles();
     "offset", "offset", Some(1.0), |c| unsafe { ours::inside_offset(c.p, c.asked.deals) }, |c| c.rust.offset(c.asked.deals);

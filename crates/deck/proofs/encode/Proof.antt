@@ -1,62 +1,70 @@
--- `deck::encode` meets its contract.
+-- `deck::encode` meets its contract. The invariant: the field has the places passed whose card the mask has.
 -- Assumes nothing.
-use mathlib.Core.Path.{_≡_, sym, ap, _∙_}
-use Prim.Native.Nat.{ℕ, _-_, _*_, _%_, _^_, _≤_}
+use borrow.Author.Needs.{needs}
+use mathlib.Core.Bool.{Bool, true, false}
+use mathlib.Core.Path.{_≡_, refl, ap, _∙_}
+use Prim.Native.Nat.{ℕ, _+_, _-_, _*_, _/_, _%_, _^_, _≤_, _<_}
 use native.Mathlib.Omega.{arith}
-use lib.Bits.{bitOr}
+use lib.Bits.{bitOr, and-le-r}
+use lib.ListN.{getD}
 use mir.Val.{boolByte}
-use Rattle.rules.specs.Bits.{maskOf}
+use Rattle.bits.proofs.Laws.{bit-mask, has-shr, mask-ext}
+use Rattle.rules.specs.Bits.{num, bit, maskOf}
 use Rattle.rules.specs.Places.{cardAt, stockCard, inDeck, deckCard}
 use Rattle.rules.specs.Code.{deckField}
-use Rattle.rules.proofs.Shape.{shape}
+use Rattle.rules.proofs.Facts.{facts}
+use Rattle.rules.proofs.Shape.{deck-cards}
 use Rattle.deck.proofs.Fields.{put-place, no-places}
-use Rattle.deck.proofs.Passing.{byte-le, Right, right, Walk, walk-start, walk-step, has}
-use borrow.Author.Needs.{needs}
 use Rattle.deck.proofs.encode.Statement.{statement}
 use Rattle.deck.proofs.encode.Tie as tie
 
 abbrev Inv-loop : tie.InvT-loop
-Inv-loop deal deck left field₀ at₀ k₀ field at k = Walk deal deck left k at × (k ≤ 24) × (field ≡ maskOf k (has deal deck left))
+Inv-loop deal mask field₀ k₀ field k = (k ≤ 24) × (field ≡ maskOf k (λ j. bit mask (getD deal (28 + j) 0)))
 
 abbrev μ-loop : tie.MeasureT-loop
-μ-loop deal deck left field₀ at₀ k₀ field at k = 24 - k
+μ-loop deal mask field₀ k₀ field k = 24 - k
 
--- the deck is in order
-ordered : (c : tie.After-struct-known Inv-loop μ-loop) → Right (c .before .before .before .args .p .deal) (c .before .before .before .args .p .deck) (c .before .before .before .args .p .left)
-ordered c =
-    let s = c .before .before .before in
-    let h = shape (s .args .p) _ (s .good .0) in
-    right (s .args .p) (s .pre) (h .deal) (h .deck)
+-- the deal's bytes are cards
+card : (c : tie.After-left-mask Inv-loop μ-loop) → (k : ℕ) → k < 52 → getD (c .before .before .before .before .before .args .p .deal) k 0 < 52
+unfolding cardAt
+card c = let s = c .before .before .before .before .before in facts (s .args .p) (s .pre) .cards
 
-cast-left : tie.Need-cast-left Inv-loop μ-loop
-cast-left c = search needs
+low : (c : tie.In-loop Inv-loop μ-loop) → getD (c .before .before .before .before .before .before .before .args .p .deal) (28 + c .before .loop .k) 0 < 52
+low c = card (c .before .before) (28 + c .before .loop .k) (omega (arith, c .loop-test .taken))
+
+as-byte : (b : Bool) → num b ≡ boolByte b
+as-byte true = refl
+as-byte false = refl
+
+cast-left-mask : tie.Need-cast-left-mask Inv-loop μ-loop
+cast-left-mask c = search needs
+
+left-mask-requires : tie.Need-left-mask-requires Inv-loop μ-loop
+left-mask-requires c κs = let s = c .before .before .before .before in (facts (s .args .p) (s .pre) .left, deck-cards (s .args .p) _ (s .good .0) (s .pre))
 
 loop-holds : tie.Need-loop-holds Inv-loop μ-loop
-loop-holds c = let p = c .before .before .before .args .p in (walk-start (p .deal) (p .deck) (p .left) (ordered c), omega arith, no-places (has (p .deal) (p .deck) (p .left)))
+loop-holds c = (omega arith, no-places (λ j. bit (c .left-mask .result) (getD (c .before .before .before .before .before .args .p .deal) (28 + j) 0)))
 
-add-stands : tie.Need-add-stands Inv-loop μ-loop
-add-stands c = search needs
+add-c : tie.Need-add-c Inv-loop μ-loop
+add-c c = search needs
 
-array-read-stands : tie.Need-array-read-stands Inv-loop μ-loop
-array-read-stands c = search needs
-
-stands-requires : tie.Need-stands-requires Inv-loop μ-loop
-stands-requires c κs = omega (arith, ordered (c .before .before) .fits)
+array-read-c : tie.Need-array-read-c Inv-loop μ-loop
+array-read-c c = search needs
 
 cast-field : tie.Need-cast-field Inv-loop μ-loop
-cast-field c = search needs
+cast-field c = omega (arith, low c)
+
+shr-field : tie.Need-shr-field Inv-loop μ-loop
+shr-field c = omega (arith, low c)
 
 cast-field-2 : tie.Need-cast-field-2 Inv-loop μ-loop
-cast-field-2 c = search needs
+cast-field-2 c = omega (arith, and-le-r (c .before .before .left-mask .result / 2 ^ getD (c .before .before .before .before .before .before .before .args .p .deal) (28 + c .before .loop .k) 0) 1)
+
+cast-field-3 : tie.Need-cast-field-3 Inv-loop μ-loop
+cast-field-3 c = search needs
 
 shl-field : tie.Need-shl-field Inv-loop μ-loop
 shl-field c = search needs
-
-cast-at : tie.Need-cast-at Inv-loop μ-loop
-cast-at c = search needs
-
-add-at : tie.Need-add-at Inv-loop μ-loop
-add-at c = omega (arith, byte-le (c .stands .result), ordered (c .before .before .before) .fits, c .before .before .loop .inv .0 .low)
 
 add-k : tie.Need-add-k Inv-loop μ-loop
 add-k c = search needs
@@ -66,18 +74,23 @@ loop-less c = search needs
 
 loop-again : tie.Need-loop-again Inv-loop μ-loop
 loop-again c =
-    let l = c .before .before .loop in
-    let p = c .before .before .before .before .before .before .args .p in
-    let s = walk-step (p .deal) (p .deck) (p .left) (ordered (c .before .before .before)) (l .k) (l .at) (c .before .loop-test .taken) (l .inv .0) (c .stands .result) (sym (c .stands .ensures)) in
-    (s .1, omega (arith, c .before .loop-test .taken), ap (λ (m : ℕ). bitOr m (boolByte (c .stands .result) * 2 ^ l .k % 2 ^ 32)) (l .inv .2) ∙ put-place (has (p .deal) (p .deck) (p .left)) (l .k) (c .stands .result) (c .before .loop-test .taken) (s .0))
+    let l = c .before .loop in
+    let m = c .before .before .left-mask .result in
+    let d = c .before .before .before .before .before .before .before .args .p .deal in
+    let x = getD d (28 + l .k) 0 in (
+      omega arith,
+      rw (l .inv .1) (ap (λ (y : ℕ). bitOr (maskOf (l .k) (λ j. bit m (getD d (28 + j) 0))) (y * 2 ^ l .k % 2 ^ 32)) (has-shr m x ∙ as-byte (bit m x)) ∙ put-place (λ j. bit m (getD d (28 + j) 0)) (l .k) (bit m x) (c .loop-test .taken) refl),
+    )
 
 returns : tie.Need-returns Inv-loop μ-loop
 unfolding deckField stockCard cardAt inDeck deckCard
 returns c =
     let l = c .before .loop in
-    let p = c .before .before .before .before .before .args .p in
-    let e : l .k ≡ 24 = omega (arith, c .loop-test .left, l .inv .1) in
-    l .inv .2 ∙ ap (λ (n : ℕ). maskOf n (has (p .deal) (p .deck) (p .left))) e
+    let b = c .before .before in
+    let d = b .before .before .before .before .before .args .p .deal in
+    let e : l .k ≡ 24 = omega (arith, c .loop-test .left, l .inv .0) in
+    l .inv .1 ∙ ap (λ (n : ℕ). maskOf n (λ j. bit (b .left-mask .result) (getD d (28 + j) 0))) e
+    ∙ mask-ext 24 _ _ (λ k h. ap (λ (m : ℕ). bit m (getD d (28 + k) 0)) (b .left-mask .ensures) ∙ bit-mask 52 _ (getD d (28 + k) 0) (card b (28 + k) (omega arith)))
 
 pub encode-spec : {M : Type 1} → statement M
 encode-spec =
@@ -85,16 +98,16 @@ encode-spec =
     (tie.spec
     Inv-loop
     μ-loop
-    cast-left
+    cast-left-mask
+    left-mask-requires
     loop-holds
-    add-stands
-    array-read-stands
-    stands-requires
+    add-c
+    array-read-c
     cast-field
+    shr-field
     cast-field-2
+    cast-field-3
     shl-field
-    cast-at
-    add-at
     add-k
     loop-less
     loop-again

@@ -1,29 +1,29 @@
--- `hidden::alone_mask` meets its contract.
+-- `hidden::base_mask` meets its contract.
 -- Assumes nothing.
 use borrow.Author.Needs.{needs}
 use mathlib.Core.Path.{_≡_, refl, ap}
 use Prim.Native.Nat.{ℕ, _-_, _≤_, _<_}
 use native.Mathlib.Omega.{arith}
-use lib.Dec.{eqb}
+use mathlib.Core.Bool.{true}
 use lib.ListN.{getD}
 use Rattle.rules.specs.Bits.{maskOf, anyOf}
-use Rattle.rules.specs.Hidden.{placed, aloneIn}
+use Rattle.rules.specs.Hidden.{placed, baseIn}
 use Rattle.hidden.proofs.Collected.{picked, picked-step, in-deal}
-use Rattle.hidden.proofs.alone_mask.Statement.{statement}
-use Rattle.hidden.proofs.alone_mask.Tie as tie
+use Rattle.hidden.proofs.base_mask.Statement.{statement}
+use Rattle.hidden.proofs.base_mask.Tie as tie
 
 abbrev Inv-loop : tie.InvT-loop
-Inv-loop deal counts mask₀ i₀ mask i = (i ≤ 7) × (mask ≡ picked (λ j. eqb (getD counts j 0) 1) (λ j. placed deal j 0) i)
+Inv-loop deal mask₀ i₀ mask i = (i ≤ 7) × (mask ≡ picked (λ j. true) (λ j. placed deal j 0) i)
 
 abbrev μ-loop : tie.MeasureT-loop
-μ-loop deal counts mask₀ i₀ mask i = 7 - i
+μ-loop deal mask₀ i₀ mask i = 7 - i
 
 -- the place that is read, and the card there
 place : (c : tie.After-pile-start Inv-loop μ-loop) → c .pile-start .result < 52
 place c = omega (arith, in-deal (c .before .before .loop .i) 1 (c .pile-start .result) (c .before .loop-test .taken) (omega arith) (c .pile-start .ensures))
 
 card : (c : tie.After-pile-start Inv-loop μ-loop) → getD (c .before .before .before .args .deal .now) (c .pile-start .result) 0 < 52
-card c = c .before .before .before .pre .0 (c .pile-start .result) (place c)
+card c = c .before .before .before .pre (c .pile-start .result) (place c)
 
 loop-holds : tie.Need-loop-holds Inv-loop μ-loop
 unfolding maskOf anyOf
@@ -36,19 +36,13 @@ cast-at : tie.Need-cast-at Inv-loop μ-loop
 cast-at c = search needs
 
 element-copy-out-mask : tie.Need-element-copy-out-mask Inv-loop μ-loop
-element-copy-out-mask c = search needs
+element-copy-out-mask c = omega (arith, place c)
 
 cast-mask : tie.Need-cast-mask Inv-loop μ-loop
-cast-mask c = search needs
-
-element-copy-out-mask-2 : tie.Need-element-copy-out-mask-2 Inv-loop μ-loop
-element-copy-out-mask-2 c = omega (arith, place (c .before))
-
-cast-mask-2 : tie.Need-cast-mask-2 Inv-loop μ-loop
-cast-mask-2 c = omega (arith, card (c .before .before))
+cast-mask c = omega (arith, card (c .before))
 
 shl-mask : tie.Need-shl-mask Inv-loop μ-loop
-shl-mask c = omega (arith, card (c .before .before))
+shl-mask c = omega (arith, card (c .before))
 
 add-i : tie.Need-add-i Inv-loop μ-loop
 add-i c = search needs
@@ -58,21 +52,20 @@ loop-less c = search needs
 
 loop-again : tie.Need-loop-again Inv-loop μ-loop
 loop-again c =
-    let b = c .before .before .before .before in
+    let b = c .before .before .before in
     let d = b .before .args .deal .now in (
       omega arith,
-      rw (b .loop .inv .1) (picked-step (λ j. eqb (getD (b .before .args .counts .now) j 0) 1) (λ j. placed d j 0) (b .loop .i) _ (card (c .before .before))
-          (λ t. ap (λ (k : ℕ). getD d k 0) (omega (arith, c .before .before .pile-start .ensures)))),
+      rw (b .loop .inv .1) (picked-step (λ j. true) (λ j. placed d j 0) (b .loop .i) _ (card (c .before)) (λ t. ap (λ (k : ℕ). getD d k 0) (omega (arith, c .before .pile-start .ensures)))),
     )
 
 returns : tie.Need-returns Inv-loop μ-loop
-unfolding aloneIn
+unfolding baseIn
 returns c =
     let e : c .before .loop .i ≡ 7 = omega arith in
     rw e at (c .before .loop .inv .1)
 
-pub alone-mask-spec : {M : Type 1} → statement M
-alone-mask-spec =
+pub base-mask-spec : {M : Type 1} → statement M
+base-mask-spec =
     tie.close
     (tie.spec
     Inv-loop
@@ -82,8 +75,6 @@ alone-mask-spec =
     cast-at
     element-copy-out-mask
     cast-mask
-    element-copy-out-mask-2
-    cast-mask-2
     shl-mask
     add-i
     loop-less
