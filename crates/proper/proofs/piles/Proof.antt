@@ -95,7 +95,7 @@ loop-less : tie.Need-loop-less Inv-loop μ-loop
 loop-less c = search needs
 
 loop-again : tie.Need-loop-again Inv-loop μ-loop
-loop-again c = 
+loop-again c =
     let b = c .before .before .before .before in
     let a = b .before .before .before .args in
     let d = a .deal .now in
@@ -122,7 +122,7 @@ array-read-t29 c = search needs
 
 returns : tie.Need-returns Inv-loop μ-loop
 unfolding buriedIn headIn
-returns c = 
+returns c =
     let l = c .before .loop in
     let e : l .i ≡ 7 = omega arith in
     (l .inv .1 28 (omega arith), λ t. rw e at (l .inv .2 t), λ t. rw e at (l .inv .3 t))

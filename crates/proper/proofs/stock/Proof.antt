@@ -60,7 +60,7 @@ loop-less : tie.Need-loop-less Inv-loop μ-loop
 loop-less c = search needs
 
 loop-again : tie.Need-loop-again Inv-loop μ-loop
-loop-again c = 
+loop-again c =
     let b = c .before .before in
     let l = b .loop in
     let d = b .before .args .deal .now in
@@ -72,15 +72,15 @@ loop-again c =
       rw (l .inv .2) (cards-step d 28 (l .k)),
       length-set (l .cards) (l .n) x ∙ l .inv .3,
       λ fit.
-      let low = fit (28 + l .k) (omega arith) in
-      let small : getD d (28 + l .k) 0 % 64 ≡ getD d (28 + l .k) 0 = omega arith in
-      let y : x ≡ getD d (28 + l .k) 0 = and-mask (getD d (28 + l .k) 0) 6 ∙ small in
-      ap (λ (i : ℕ). take (l .n + i) (set (l .cards) (l .n) x)) (has-shr m x)
-      ∙ pick-step m (take 24 (drop 28 d)) (l .cards) (l .n) (l .k) x (omega (arith, stock-length d ld)) (y ∙ stock-at d ld (l .k) (omega arith)) (omega (arith, l .inv .3)) (l .inv .4 fit),
+          let low = fit (28 + l .k) (omega arith) in
+          let small : getD d (28 + l .k) 0 % 64 ≡ getD d (28 + l .k) 0 = omega arith in
+          let y : x ≡ getD d (28 + l .k) 0 = and-mask (getD d (28 + l .k) 0) 6 ∙ small in
+          ap (λ (i : ℕ). take (l .n + i) (set (l .cards) (l .n) x)) (has-shr m x)
+          ∙ pick-step m (take 24 (drop 28 d)) (l .cards) (l .n) (l .k) x (omega (arith, stock-length d ld)) (y ∙ stock-at d ld (l .k) (omega arith)) (omega (arith, l .inv .3)) (l .inv .4 fit),
     )
 
 returns : tie.Need-returns Inv-loop μ-loop
-returns c = 
+returns c =
     let l = c .before .loop in
     let d = c .before .before .args .deal .now in
     let ld : length d ≡ 52 = c .before .before .pre in
