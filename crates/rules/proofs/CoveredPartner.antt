@@ -1,6 +1,7 @@
 -- "Treating a partner covered by a run as stuck. The run may move to the uncovered partner": a position that tells the two readings apart, by computation.
 -- Both kings 48 and 49 are visible, and the queen 44 lies on one of them: either king may go up.
 -- Assumes nothing.
+use mathlib.Core.Bool.{false}
 use mathlib.Core.Path.{_≡_, refl}
 use Rattle.rules.specs.declared.Started.{Started}
 use Rattle.rules.specs.declared.Masked.{Masked}
