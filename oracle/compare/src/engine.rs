@@ -147,6 +147,30 @@ impl Call {
     }
 }
 
+impl Answer {
+    /// The number given; none for the listing, which hands back a front alone.
+    pub fn refusal(&self) -> Option<u8> {
+        Some(match self {
+            Self::Started(a) => a.refusal,
+            Self::Saved(a) => a.refusal,
+            Self::Masked(a) => a.refusal,
+            Self::Told(a) => a.refusal,
+            Self::Front(..) => return None,
+            Self::Listed(a) => a.refusal,
+            Self::Heights(a) => a.refusal,
+            Self::DeckView(a) => a.refusal,
+            Self::Located(a) => a.refusal,
+            Self::Offset(a) => a.refusal,
+            Self::Piled(a, _) => a.refusal,
+            Self::Moved(a, _) => a.refusal,
+            Self::Undone(a, _) => a.refusal,
+            Self::Ranked(a) => a.refusal,
+            Self::Turned(a) => a.refusal,
+            Self::TurnedLent(refusal, _) => *refusal,
+        })
+    }
+}
+
 /// The answer of a side to a call; none where it has none.
 pub fn ask(side: &mut dyn Engine, call: &Call) -> Option<Answer> {
     Some(match call {

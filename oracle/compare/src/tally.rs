@@ -17,6 +17,8 @@ struct Difference {
 #[derive(Default)]
 pub struct Tally {
     asked: BTreeMap<&'static str, u64>,
+    /// by the number that the first side to answer gives, which is the model's where it has one
+    refused: BTreeMap<u8, u64>,
     compared: BTreeMap<(Sides, &'static str), u64>,
     differences: BTreeMap<(String, Sides, &'static str), Difference>,
     notes: BTreeMap<String, u64>,
@@ -54,6 +56,9 @@ impl Tally {
     pub fn ask(&mut self, sides: &mut [Box<dyn Engine>], call: &Call) -> Vec<Option<Answer>> {
         let answers: Vec<Option<Answer>> = sides.iter_mut().map(|side| ask(side.as_mut(), call)).collect();
         *self.asked.entry(call.name()).or_default() += 1;
+        if let Some(number) = answers.iter().flatten().next().and_then(Answer::refusal) {
+            *self.refused.entry(number).or_default() += 1;
+        }
         for i in 0..sides.len() {
             for j in i + 1..sides.len() {
                 if let (Some(a), Some(b)) = (&answers[i], &answers[j]) {
@@ -102,6 +107,10 @@ impl Tally {
         println!("calls asked:");
         for (name, times) in &self.asked {
             println!("  {times:>10}  {name}");
+        }
+        println!("answers by their refusal, 0 for accepted:");
+        for (number, times) in &self.refused {
+            println!("  {times:>10}  {number}");
         }
         println!("answers compared:");
         for ((sides, name), times) in &self.compared {
