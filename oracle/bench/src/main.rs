@@ -1,6 +1,6 @@
 //! Runs our inner calls and the Rust's on the same positions, in one process.
-//!   bench                     a table of the best of many rounds, in ns for each call
-//!   bench instructions        the same in instructions, which repeat: each thing of each side under callgrind
+//!   bench [THING..]               a table of the best of many rounds, in ns for each call; of these things alone
+//!   bench instructions [THING..]  the same in instructions, which repeat: each thing of each side under callgrind
 //!   bench one FILE THING SIDE ROUNDS   one of them alone, for callgrind (SIDE 0 is ours, 1 the Rust's; FILE has the cases)
 mod cases;
 mod ours;
@@ -90,6 +90,7 @@ fn main() {
     }
     let instructions = words.first().is_some_and(|w| w == "instructions");
     let mut sets = cases::sets(SEED);
+    assert!(sets.iter().all(|(_, cases)| cases.iter().all(things::agree)), "the sides differ");
     println!("| ours | the Rust's | play: ours | Rust | ratio | any: ours | Rust | ratio | target |");
     println!("|---|---|---|---|---|---|---|---|---|");
     let mut nothing = vec![];
@@ -98,7 +99,11 @@ fn main() {
         std::fs::write(&file, cases::write(cases)).unwrap();
         file
     });
+    let asked = &words[usize::from(instructions)..];
     for thing in THINGS {
+        if !asked.is_empty() && thing.name != "nothing" && !asked.iter().any(|word| word == thing.name) {
+            continue;
+        }
         let numbers: Vec<[f64; 2]> = sets
             .iter_mut()
             .zip(&files)

@@ -80,6 +80,29 @@ fn rust_resume(c: &mut Case) -> bool {
     c.rust.is_valid()
 }
 
+/// Both sides give the same answers on a case, so that they are measured at the same work.
+pub fn agree(c: &Case) -> bool {
+    let same = |ours: ours::Masks, pruned: bool| {
+        let rust = c.rust.masks(pruned);
+        [ours.reveal, ours.pile_stack, ours.deck_pile, ours.deck_stack, ours.stack_pile]
+            == [rust.reveal, rust.pile_stack, rust.deck_pile, rust.deck_stack, rust.stack_pile]
+    };
+    let (found, place) = c.rust.find_card(c.asked.deck_card);
+    let back = move_and_undo(c);
+    unsafe {
+        ours::inside_is_proper(c.p)
+            && same(ours::inside_masks(c.p), false)
+            && same(ours::inside_pruned(c.p), true)
+            && ours::inside_is_valid_move(c.p, c.asked.kind, c.asked.card)
+            && ours::inside_save(c.p) == c.asked.code
+            && c.rust.code() == c.asked.code
+            && ours::inside_offset(c.p, c.asked.deals) == c.rust.offset(c.asked.deals)
+            && ours::inside_find(c.p, c.asked.deck_card) == if found { place } else { 255 }
+            && (back.counts, back.heights, back.visible) == (c.p.counts, c.p.heights, c.p.visible)
+            && ours::inside_resume(c.p.step, c.p.deal.as_ptr(), 52, c.asked.code).refusal == 0
+    }
+}
+
 things! {
     "nothing", "reads the visible mask", None, |c| unsafe { ours::inside_nothing(c.p) }, |c| rust_nothing(c);
     "judge", "gen_moves::<false>", Some(6.0), |c| unsafe { ours::inside_is_proper(c.p) }, |c| c.rust.0.gen_moves::<false>();
