@@ -29,7 +29,7 @@ use Rattle.rules.proofs.ProperLaw.{Parts, parts, no-card}
 use Rattle.rules.proofs.Facts.{Facts, facts, headCount, sets, kings}
 use Rattle.rules.proofs.HeadsLaw.{headIs, heads-count}
 use Rattle.rules.proofs.PrunedLaw.{pruned-within}
-use Rattle.laws.specs.Demands.{ListsFew}
+use Rattle.rules.specs.Demands.{ListsFew}
 use Rattle.laws.proofs.Counting.{count-once}
 use Rattle.laws.proofs.Deck.{available-in}
 use Rattle.laws.proofs.Foundation.{top-there}

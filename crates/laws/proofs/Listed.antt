@@ -18,7 +18,7 @@ use Rattle.rules.proofs.Searches.{num-mono}
 use Rattle.rules.proofs.ListingLaw.{listed-once, listed-only}
 use Rattle.rules.proofs.MoveMasks.{lists-legal as legal-once}
 use Rattle.rules.proofs.PrunedLaw.{pruned-within}
-use Rattle.laws.specs.Demands.{ListedWithin, ListsLegal}
+use Rattle.rules.specs.Demands.{ListedWithin, ListsLegal}
 use Rattle.laws.proofs.Allowed.{kind-ok, card-ok}
 
 pub lists-legal : ListsLegal

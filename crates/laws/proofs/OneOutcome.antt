@@ -2,7 +2,7 @@
 -- outcome. One law serves every public call.
 -- Assumes nothing.
 use mathlib.Core.Path.{sym, _∙_}
-use Rattle.laws.specs.Outcomes.{OneOutcome}
+use Rattle.rules.specs.Outcomes.{OneOutcome}
 
 pub one-outcome : OneOutcome
 one-outcome i x y h k = λ j. ((h .0 ∙ sym (k .0)) j, (h .1 ∙ sym (k .1)) j)

@@ -1,10 +1,10 @@
 -- Every demand of document 01 besides the contracts, as one line each: the theorem's name and the statement that it proves. The statements stand in
--- specs/ (Demands, Secrecy, Outcomes), under the document's sentences. The six main ones come first. Nothing is assumed.
+-- rules/specs (Demands, Secrecy, Outcomes), under the document's sentences. The six main ones come first. Nothing is assumed.
 use Rattle.rules.specs.Dealing.{DealsRight}
 use Rattle.rules.specs.Worked.{W}
-use Rattle.laws.specs.Secrecy.{dealtFresh, KeepsSecrets}
-use Rattle.laws.specs.Outcomes.{OneOutcome}
-use Rattle.laws.specs.Demands.{MovesKeepProper, UndoAfterMove, RefusalExact, SaveResumeInverse, PrunedWithin, FreshProper, ResumedProper, CodeOfOne, UndoableSound, UndoableComplete, UndoableUnshaped, EarlierUnique, EntriesFit, ListedWithin, ListsLegal, ListsFew, ShownOnce, BytesShowOnce, PilesArranged}
+use Rattle.rules.specs.Secrecy.{dealtFresh, KeepsSecrets}
+use Rattle.rules.specs.Outcomes.{OneOutcome}
+use Rattle.rules.specs.Demands.{MovesKeepProper, UndoAfterMove, RefusalExact, SaveResumeInverse, PrunedWithin, FreshProper, ResumedProper, CodeOfOne, UndoableSound, UndoableComplete, UndoableUnshaped, EarlierUnique, EntriesFit, ListedWithin, ListsLegal, ListsFew, ShownOnce, BytesShowOnce, PilesArranged}
 use Rattle.rules.proofs.DealsLaw.{deals-right as deals}
 use Rattle.rules.proofs.PrunedLaw.{pruned-within as within}
 use Rattle.laws.proofs.MovesProper.{moves-keep-proper as kept-proper}

@@ -9,7 +9,7 @@ use Rattle.rules.specs.declared.Position.{Position}
 use Rattle.rules.specs.Play.{undoByte}
 use Rattle.rules.specs.History.{entry, entryByte, entryKind, entryCard, stepBack, undoable}
 use Rattle.rules.proofs.UndoLaw.{kept-deal, kept-step}
-use Rattle.laws.specs.Demands.{UndoableSound}
+use Rattle.rules.specs.Demands.{UndoableSound}
 use Rattle.laws.proofs.UndoTest.{Passes, passes}
 
 -- an entry is made of its parts

@@ -3,7 +3,7 @@ ghost use mathlib.Core.Path.{_≡_};
 ghost use Prim.Native.Nat.{_<_};
 ghost use lib.ListN.{length};
 ghost use denote.Ref.{ptr};
-ghost use Rattle.rules.specs.Moves.{CardMasks, moveCount, noMove, filtered, combined, oneMove, fitting, listedOver};
+ghost use Rattle.rules.specs.Moves.{CardMasks, moveCount, noMoves, filtered, combined, oneMove, fitting, listedOver};
 use rules::Masks;
 
 // The kinds, as the history has them.
@@ -18,7 +18,7 @@ pub const STACK_PILE: u8 = 3;
 pub const REVEAL: u8 = 4;
 
 // A listed move is its kind times this, and its card.
-const KIND: u16 = 64;
+pub const KIND: u16 = 64;
 
 // How many moves there are.
 pub fn len(m: Masks) -> u32
@@ -33,7 +33,7 @@ pub fn len(m: Masks) -> u32
 
 // Is there no move?
 pub fn is_empty(m: Masks) -> bool
-    ensures { λ r. ⌜ r ≡ noMove m ⌝ }
+    ensures { λ r. ⌜ r ≡ noMoves m ⌝ }
 {
     (m.reveal | m.pile_stack | m.deck_pile | m.deck_stack | m.stack_pile) == 0
 }

@@ -35,8 +35,8 @@ unfoldable pub moveCount : Masks → ℕ
 moveCount m = size (m .reveal) + size (m .«pile_stack») + size (m .«deck_pile») + size (m .«deck_stack») + size (m .«stack_pile»)
 
 -- `is_empty`: no move
-unfoldable pub noMove : Masks → Bool
-noMove m = eqb (m .reveal) 0 && eqb (m .«pile_stack») 0 && eqb (m .«deck_pile») 0 && eqb (m .«deck_stack») 0 && eqb (m .«stack_pile») 0
+unfoldable pub noMoves : Masks → Bool
+noMoves m = eqb (m .reveal) 0 && eqb (m .«pile_stack») 0 && eqb (m .«deck_pile») 0 && eqb (m .«deck_stack») 0 && eqb (m .«stack_pile») 0
 
 -- `binary_op`: mask by mask
 unfoldable pub maskByMask : (ℕ → ℕ → ℕ) → Masks → Masks → Masks
