@@ -26,8 +26,15 @@ pub const SUIT_MASK: [u64; N_SUITS as usize] = [
 // The cards of each colour.
 pub const COLOR_MASK: [u64; 2] = [SUIT_MASK[0] | SUIT_MASK[1], SUIT_MASK[2] | SUIT_MASK[3]];
 
+// Pile k has k + 1 places. The piles' places are the deal's first, the deck's the others.
+pub const N_PILES: u8 = 7;
+
+pub const N_PILE_CARDS: u8 = N_PILES * (N_PILES + 1) / 2;
+
+pub const N_DECK_CARDS: u8 = N_CARDS - N_PILE_CARDS;
+
 // Where each pile starts in the deal.
-pub const PILE_START: [u8; 7] = [0, 1, 3, 6, 10, 15, 21];
+pub const PILE_START: [u8; N_PILES as usize] = [0, 1, 3, 6, 10, 15, 21];
 
 // The four kings.
 pub const KING_MASK: u64 = 0xF << (N_SUITS * KING_RANK);

@@ -10,18 +10,18 @@ ghost use Rattle.code.specs.Starts.{refusedBy, fieldsOf, Ranged, setsOf,
 use rules::Position;
 use rules::Started;
 
-const N_CARDS: usize = 52;
+const N_CARDS: usize = card::N_CARDS as usize;
 
-const N_PILES: u32 = 7;
+const N_PILES: u32 = card::N_PILES as u32;
 
-const N_SUITS: usize = 4;
+const N_SUITS: usize = card::N_SUITS as usize;
 
-// The piles take the first 28 cards of a deal, the deck the other 24.
-const N_PILE_CARDS: usize = 28;
+const N_PILE_CARDS: usize = card::N_PILE_CARDS as usize;
 
-const N_DECK_CARDS: usize = 24;
+const N_DECK_CARDS: usize = card::N_DECK_CARDS as usize;
 
-const MAX_STEP: u8 = 24;
+// A deal turns at most as many cards as the deck has.
+const MAX_STEP: u8 = card::N_DECK_CARDS;
 
 // The position that a refused deal or resume returns: all numbers 0.
 pub fn blank() -> Position

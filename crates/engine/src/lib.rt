@@ -2,12 +2,10 @@
 // A refused call hands back the position it was given and leaves lent memory as it was.
 ghost use mathlib.Core.Path.{_≡_};
 ghost use mathlib.Core.Bool.{false};
-ghost use lib.Dec.{T};
 ghost use lib.ListN.{length};
 ghost use denote.Ref.{ptr};
 ghost use Rattle.rules.specs.Play.{slots};
-ghost use Rattle.rules.specs.Proper.{proper};
-ghost use Rattle.rules.specs.Answers.{dealAnswer, resumeAnswer, saveAnswer, ladderAnswer, noMasks, masksFor, masksAnswer, testAnswer, listingAnswer, listingFront, listingInto, winAnswer, sureWinAnswer, heightsAnswer, deckAnswer, findAnswer, offsetAnswer, pilesAnswer, pilesBuffer};
+ghost use Rattle.rules.specs.Answers.{dealAnswer, resumeAnswer, saveAnswer, ladderAnswer, noMasks, masksAnswer, testAnswer, listingAnswer, listingFront, listingInto, winAnswer, sureWinAnswer, heightsAnswer, deckAnswer, findAnswer, offsetAnswer, pilesAnswer, pilesBuffer};
 
 mod history;
 
@@ -28,7 +26,7 @@ use rules::Started;
 use rules::Told;
 
 // The bytes that the face-up piles need.
-pub const PILE_BYTES: usize = 91;
+pub const PILE_BYTES: usize = card::N_PILES as usize * card::N_RANKS as usize;
 
 // No refusal.
 const ACCEPTED: u8 = 0;
@@ -83,17 +81,6 @@ fn no_masks() -> Masks
     }
 }
 
-// The legal moves, or, where pruning is asked, those that are worth trying.
-fn hints(p: Position, pruned: bool) -> Masks
-    requires { ⌜ T (proper p) ⌝ }
-    ensures { λ r. ⌜ r ≡ masksFor pruned p ⌝ }
-{
-    if pruned {
-        return prune::pruned(p);
-    }
-    state::masks(p)
-}
-
 // The masks of the moves.
 pub fn masks(p: Position, pruned: bool) -> Masked
     ensures { λ r. ⌜ r ≡ masksAnswer pruned p ⌝ }
@@ -106,7 +93,7 @@ pub fn masks(p: Position, pruned: bool) -> Masked
             masks: none,
         };
     }
-    let found = hints(p, pruned);
+    let found = prune::hints(p, pruned);
     Masked {
         refusal: ACCEPTED,
         position: p,
@@ -157,7 +144,7 @@ pub fn list_into(p: Position, pruned: bool, out: &mut [u16]) -> Listed
             count: 0,
         };
     }
-    let m = hints(p, pruned);
+    let m = prune::hints(p, pruned);
     if out.len() < moves::len(m) as usize {
         return Listed {
             refusal: rules::TOO_SHORT,
@@ -192,7 +179,7 @@ pub fn list_count(p: Position, pruned: bool, room: usize) -> Listed
             count: 0,
         };
     }
-    let n = moves::len(hints(p, pruned)) as usize;
+    let n = moves::len(prune::hints(p, pruned)) as usize;
     if room < n {
         return Listed {
             refusal: rules::TOO_SHORT,

@@ -11,15 +11,15 @@ ghost use Rattle.piles.specs.Run.{triedOf, runOf, kingsOf, firstRunOf, r
 use rules::Position;
 
 // The cards of one rank: one of each suit.
-const N_SUITS: u8 = 4;
+const N_SUITS: u8 = card::N_SUITS;
 
 // The king of suit 0; the others follow it.
-const KING: u8 = 48;
+const KING: u8 = card::KING_RANK * N_SUITS;
 
-const N_PILES: usize = 7;
+const N_PILES: usize = card::N_PILES as usize;
 
 // A pile's part of the lent bytes, one for each rank.
-const N_RANKS: usize = 13;
+const N_RANKS: usize = card::N_RANKS as usize;
 
 // A byte that shows no card.
 const UNUSED: u8 = 255;

@@ -19,11 +19,11 @@ const N_FOUNDATIONS: usize = card::N_SUITS as usize;
 const N_CARDS: usize = card::N_CARDS as usize;
 
 // An entry of the history is byte·512 + kind·64 + card: the units of its parts, and how many kinds it has room for.
-const BYTE: u16 = 512;
+const BYTE: u16 = KIND * KINDS;
 
-const KIND: u16 = 64;
+const KIND: u16 = moves::KIND;
 
-const KINDS: u16 = BYTE / KIND;
+const KINDS: u16 = 8;
 
 // The first n bytes are the same.
 fn same_bytes(a: &[u8], b: &[u8], n: usize) -> bool

@@ -12,10 +12,9 @@ use rules::Position;
 use rules::TurnedUp;
 pub use unmake::undo_move;
 
-const N_PILES: usize = 7;
+const N_PILES: usize = card::N_PILES as usize;
 
-// A deck has at most this many cards.
-const N_DECK_CARDS: u8 = 24;
+const N_DECK_CARDS: u8 = card::N_DECK_CARDS;
 
 // What a move leads to: the position, the byte that undo needs, and what the move turned up.
 pub struct Made {

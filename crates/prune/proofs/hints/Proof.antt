@@ -1,9 +1,9 @@
--- `engine::hints` meets its contract.
+-- `prune::hints` meets its contract.
 -- Assumes nothing.
 use borrow.Author.Needs.{needs}
 use Rattle.rules.specs.Answers.{masksFor}
-use Rattle.engine.proofs.hints.Statement.{statement}
-use Rattle.engine.proofs.hints.Tie as tie
+use Rattle.prune.proofs.hints.Statement.{statement}
+use Rattle.prune.proofs.hints.Tie as tie
 
 pruned-requires : tie.Need-pruned-requires
 pruned-requires c κs = search needs
