@@ -1,11 +1,22 @@
--- A search over the piles: a pile passes where it has the place, and the card is there.
+-- A search over the piles: a pile passes where it has the place, and the card is there. The card under a head; the locked cards.
 -- Assumes nothing.
-use mathlib.Core.Bool.{Bool, true, false, _&&_, true≢false}
-use mathlib.Core.Path.{_≡_, sym, ap, _∙_}
-use mathlib.Core.List.{List}
-use Prim.Native.Nat.{ℕ}
-use lib.Dec.{eqb}
+use mathlib.Core.Bool.{Bool, true, false, _&&_, _||_, cond, and-true, or-comm, true≢false}
+use mathlib.Core.Path.{_≡_, sym, ap, ap₂, _∙_}
+use mathlib.Core.List.{List, []}
+use Prim.Native.Nat.{ℕ, _+_, _-_, _≤_, _<_}
+use native.Mathlib.Omega.{arith}
+use lib.Dec.{eqb, ltb, leb}
 use lib.ListN.{getD}
+use native.Mathlib.Nat.{add-zero}
+use borrow.Author.Tests.{ltb-true, leb-true, lt-ltb, le-leb}
+use Rattle.bits.proofs.Tables.{same-test}
+use Rattle.rules.specs.declared.TurnedUp.the-variants.{Emptied, Card}
+use Rattle.rules.specs.declared.Position.{Position}
+use Rattle.rules.specs.Places.{isHead, isBuried}
+use Rattle.rules.specs.Hidden.{CountsFit, placed, headOf, bareOf, headIn, buriedIn, lockedIn}
+use Rattle.rules.proofs.HiddenLaw.{buried-is, head-is, locked-in}
+use Rattle.rules.proofs.ProperLaw.{locked-is}
+use Rattle.hidden.specs.Places.{hasPlace, standsAt, lastOf}
 use Rattle.rules.proofs.Searches.{and-left, and-right, and-both}
 
 -- d has x at the place k, which the code reads as j; b says that the pile has such a place
@@ -18,3 +29,39 @@ module _ (d : List ℕ) (x j k : ℕ) (e : j ≡ k) (b : Bool) where
 
 pub no-place : (b t : Bool) → b ≡ false → (b && t) ≡ true → ⊥
 no-place b t h e = true≢false (sym (and-left b t e) ∙ h)
+
+-- a place that the pile has
+pub place-some : (m i : ℕ) → hasPlace m i ≡ true → 0 < m
+place-some m i h = ltb-true 0 m (and-left (ltb 0 m) (leb m (i + 1)) h)
+
+pub place-fits : (m i : ℕ) → hasPlace m i ≡ true → m ≤ i + 1
+place-fits m i h = leb-true m (i + 1) (and-right (ltb 0 m) (leb m (i + 1)) h)
+
+-- a head stands at the place of its pile's count, a bare card one after it
+pub head-stands : (d n : List ℕ) → CountsFit n → (c i : ℕ) → i < 7 → standsAt d n 0 c i ≡ headOf d n c i
+head-stands d n f c i l =
+    let m = getD n i 0 in
+    let z : m + 0 ≡ m = add-zero m in
+    ap (λ (x : ℕ). hasPlace x i && eqb (placed d i (x - 1)) c) z ∙ ap (λ (b : Bool). b && eqb (placed d i (m - 1)) c) (ap (λ (b : Bool). ltb 0 m && b) (le-leb m (i + 1) (f i l)) ∙ and-true (ltb 0 m))
+
+pub bare-stands : (d n : List ℕ) (c i : ℕ) → standsAt d n 1 c i ≡ bareOf d n c i
+bare-stands d n c i =
+    let m = getD n i 0 in
+    ap₂ _&&_ (same-test (hasPlace (m + 1) i) (leb m i) (λ h. le-leb m i (omega (arith, place-fits (m + 1) i h))) (λ h. and-both (ltb 0 (m + 1)) (leb (m + 1) (i + 1)) (lt-ltb 0 (m + 1) (omega arith)) (le-leb (m + 1) (i + 1) (omega (arith, leb-true m i h)))))
+    (ap (λ (x : ℕ). eqb (placed d i x) c) (omega arith))
+
+-- the card under a head: the last when one fewer is locked
+pub under-last : (d : List ℕ) (i n : ℕ) → lastOf d i (n - 1) ≡ cond (ltb 1 n) (Card (record { 0 = placed d i (n - 2) })) Emptied
+under-last d i n =
+    ap₂ (λ (b : Bool) (k : ℕ). cond b (Card (record { 0 = placed d i k })) Emptied)
+    (same-test (ltb 0 (n - 1)) (ltb 1 n) (λ h. lt-ltb 1 n (omega (arith, ltb-true 0 (n - 1) h))) (λ h. lt-ltb 0 (n - 1) (omega (arith, ltb-true 1 n h))))
+    (omega arith)
+
+-- a locked card is buried or a head
+pub locked-both : (d n : List ℕ) (c : ℕ) → (buriedIn d n c || headIn d n c) ≡ lockedIn d n c
+locked-both d n c =
+    ap₂ _||_ (buried-is p c) (head-is p c) ∙ or-comm (isBuried p c) (isHead p c) ∙ sym (locked-in p c ∙ locked-is p c)
+  where
+    -- any position of this deal with these counts
+    p : Position
+    p = record { deal = d; step = 0; counts = n; heights = []; deck = []; left = 0; offset = 0; visible = 0 }

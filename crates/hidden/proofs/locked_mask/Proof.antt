@@ -1,81 +1,27 @@
 -- `hidden::locked_mask` meets its contract.
 -- Assumes nothing.
 use borrow.Author.Needs.{needs}
-use mathlib.Core.Path.{_≡_, refl}
-use Prim.Native.Nat.{ℕ, _+_, _-_, _≤_}
-use native.Mathlib.Omega.{arith}
-use lib.ListN.{getD}
-use Rattle.rules.specs.Bits.{maskOf, anyOf}
-use Rattle.rules.specs.Hidden.{lockedIn}
-use Rattle.hidden.proofs.Collected.{fronts, fronts-step, in-deal}
+use mathlib.Core.Path.{ap₂, _∙_}
+use lib.Bits.{bitOr}
+use Rattle.bits.proofs.Algebra.{or-masks}
+use Rattle.bits.proofs.Laws.{mask-ext}
+use Rattle.rules.specs.Hidden.{buriedIn, headIn}
+use Rattle.hidden.proofs.Found.{locked-both}
 use Rattle.hidden.proofs.locked_mask.Statement.{statement}
 use Rattle.hidden.proofs.locked_mask.Tie as tie
 
-abbrev Inv-loop : tie.InvT-loop
-Inv-loop deal counts mask₀ i₀ mask i = (i ≤ 7) × (mask ≡ fronts deal (λ j. getD counts j 0) i)
+buried-mask-requires : tie.Need-buried-mask-requires
+buried-mask-requires c κs = search needs
 
-abbrev μ-loop : tie.MeasureT-loop
-μ-loop deal counts mask₀ i₀ mask i = 7 - i
+head-mask-requires : tie.Need-head-mask-requires
+head-mask-requires c κs = search needs
 
--- the count of the pile
-abbrev count-of : tie.In-loop Inv-loop μ-loop → ℕ
-count-of c = getD (c .before .before .args .counts .now) (c .before .loop .i) 0
-
-fits : (c : tie.In-loop Inv-loop μ-loop) → count-of c ≤ c .before .loop .i + 1
-fits c = c .before .before .pre .1 (c .before .loop .i) (c .loop-test .taken)
-
-loop-holds : tie.Need-loop-holds Inv-loop μ-loop
-unfolding maskOf anyOf
-loop-holds c = (omega arith, refl)
-
-pile-start-requires : tie.Need-pile-start-requires Inv-loop μ-loop
-pile-start-requires c κs = search needs
-
-cast-cards-from : tie.Need-cast-cards-from Inv-loop μ-loop
-cast-cards-from c = search needs
-
-element-copy-out-cards-from : tie.Need-element-copy-out-cards-from Inv-loop μ-loop
-element-copy-out-cards-from c = search needs
-
-cast-cards-from-2 : tie.Need-cast-cards-from-2 Inv-loop μ-loop
-cast-cards-from-2 c = omega (arith, fits (c .before .before .before))
-
-cards-from-requires : tie.Need-cards-from-requires Inv-loop μ-loop
-cards-from-requires c κs =
-    let i = c .before .before .before .before .loop .i in
-    omega (arith, in-deal i (count-of (c .before .before .before)) (c .before .pile-start .result) (c .before .before .before .loop-test .taken) (fits (c .before .before .before)) (c .before .pile-start .ensures))
-
-add-i : tie.Need-add-i Inv-loop μ-loop
-add-i c = search needs
-
-loop-less : tie.Need-loop-less Inv-loop μ-loop
-loop-less c = search needs
-
-loop-again : tie.Need-loop-again Inv-loop μ-loop
-loop-again c =
-    let b = c .before .before .before .before .before in
-    let n = count-of (c .before .before .before .before) in
-    (omega arith, rw (b .loop .inv .1) (fronts-step (b .before .args .deal .now) (λ j. getD (b .before .args .counts .now) j 0) (b .loop .i) (c .before .before .pile-start .result) n (c .cards-from .result) (b .before .pre .0) (omega arith) (fits (c .before .before .before .before)) (c .before .before .pile-start .ensures) refl (c .cards-from .ensures)))
-
-returns : tie.Need-returns Inv-loop μ-loop
-unfolding lockedIn
+returns : tie.Need-returns
 returns c =
-    let e : c .before .loop .i ≡ 7 = omega arith in
-    rw e at (c .before .loop .inv .1)
+    let a = c .before .before .args in
+    ap₂ bitOr (c .before .buried-mask .ensures) (c .head-mask .ensures)
+    ∙ or-masks 52 (buriedIn (a .deal .now) (a .counts .now)) (headIn (a .deal .now) (a .counts .now))
+    ∙ mask-ext 52 _ _ (λ x l. locked-both (a .deal .now) (a .counts .now) x)
 
 pub locked-mask-spec : {M : Type 1} → statement M
-locked-mask-spec =
-    tie.close
-    (tie.spec
-    Inv-loop
-    μ-loop
-    loop-holds
-    pile-start-requires
-    cast-cards-from
-    element-copy-out-cards-from
-    cast-cards-from-2
-    cards-from-requires
-    add-i
-    loop-less
-    loop-again
-    returns)
+locked-mask-spec = tie.close (tie.spec buried-mask-requires head-mask-requires returns)
