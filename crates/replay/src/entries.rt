@@ -1,8 +1,9 @@
 // Tags 9, 10, 11 and 13: a few calls in one record, each with its own entry.
 ghost use Prim.Native.Nat.{_<_};
+use crate::record::SIZE;
 use crate::record::byte;
 use crate::record::put;
-use crate::record::wide;
+use crate::record::put_4;
 use crate::table;
 use crate::table::Table;
 use rules::Cursor;
@@ -16,68 +17,60 @@ pub const OFFSETS: u8 = 11;
 // The first entry's place.
 const FIRST: usize = 4;
 
-fn test(t: Table, r: &[u8], out: &mut [u8], at: usize) -> Table
+fn test(t: Table, at: usize) -> Table
     requires { ⌜ at < 64 ⌝ }
 {
-    let kind = byte(r, at);
-    let card = byte(r, at + 1);
+    let kind = byte(t, at);
+    let card = byte(t, at + 1);
     let a = engine::test(t.position, kind, card);
-    put(out, at, kind);
-    put(out, at + 1, card);
-    put(out, at + 2, a.refusal);
-    put(out, at + 3, a.yes as u8);
-    table::marked(t, table::same(a.position, t.position))
+    table::read(put_4(t, at, kind, card, a.refusal, a.yes as u8), a.position)
 }
 
-fn find(t: Table, r: &[u8], out: &mut [u8], at: usize) -> Table
+fn find(t: Table, at: usize) -> Table
     requires { ⌜ at < 64 ⌝ }
 {
-    let card = byte(r, at);
+    let card = byte(t, at);
     let a = engine::find(t.position, card);
-    put(out, at, card);
-    put(out, at + 1, a.refusal);
-    put(out, at + 2, a.found as u8);
-    put(out, at + 3, a.place);
-    table::marked(t, table::same(a.position, t.position))
+    table::read(
+        put_4(t, at, card, a.refusal, a.found as u8, a.place),
+        a.position,
+    )
 }
 
-fn offset(t: Table, r: &[u8], out: &mut [u8], at: usize) -> Table
+fn offset(t: Table, at: usize) -> Table
     requires { ⌜ at < 64 ⌝ }
 {
-    let n = byte(r, at);
+    let n = byte(t, at);
     let a = engine::offset(t.position, n);
-    put(out, at, n);
-    put(out, at + 1, a.refusal);
-    put(out, at + 2, a.offset);
-    table::marked(t, table::same(a.position, t.position))
+    let u = put(put(t, at, n), at + 1, a.refusal);
+    table::read(put(u, at + 2, a.offset), a.position)
 }
 
-fn cursor(t: Table, r: &[u8], out: &mut [u8], at: usize) -> Table
+fn cursor(t: Table, at: usize) -> Table
     requires { ⌜ at < 64 ⌝ }
 {
     let c = Cursor {
-        len: byte(r, at),
-        step: byte(r, at + 1),
-        offset: byte(r, at + 2),
+        len: byte(t, at),
+        step: byte(t, at + 1),
+        offset: byte(t, at + 2),
     };
     let a = deck::deal_once(c);
     let d = a.cursor;
-    put(out, at, d.len);
-    put(out, at + 1, d.step);
-    put(out, at + 2, c.offset);
-    put(out, at + 3, a.refusal);
-    put(out, at + 4, d.offset);
-    t
+    put(
+        put_4(t, at, d.len, d.step, c.offset, a.refusal),
+        at + 4,
+        d.offset,
+    )
 }
 
-fn one(t: Table, tag: u8, r: &[u8], out: &mut [u8], at: usize) -> Table
+fn one(t: Table, tag: u8, at: usize) -> Table
     requires { ⌜ at < 64 ⌝ }
 {
     match tag {
-        TESTS => test(t, r, out, at),
-        FINDS => find(t, r, out, at),
-        OFFSETS => offset(t, r, out, at),
-        _ => cursor(t, r, out, at),
+        TESTS => test(t, at),
+        FINDS => find(t, at),
+        OFFSETS => offset(t, at),
+        _ => cursor(t, at),
     }
 }
 
@@ -92,15 +85,15 @@ fn width(tag: u8) -> usize
     }
 }
 
-pub fn several(t: Table, tag: u8, r: &[u8], out: &mut [u8]) -> Table {
+pub fn several(t: Table, tag: u8) -> Table {
     let w = width(tag);
-    let mut left = byte(r, 2);
+    let mut left = byte(t, 2);
     let mut at = FIRST;
     let mut after = t;
     while left > 0 {
         left -= 1;
-        if at < crate::record::SIZE {
-            after = one(after, tag, r, out, at);
+        if at < SIZE {
+            after = one(after, tag, at);
             at += w;
         }
     }

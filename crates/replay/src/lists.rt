@@ -3,9 +3,11 @@ ghost use Prim.Native.Nat.{_<_, _≤_};
 use crate::record::all_are;
 use crate::record::byte;
 use crate::record::copy;
+use crate::record::get;
 use crate::record::part;
 use crate::record::put;
 use crate::record::put_short;
+use crate::record::small;
 use crate::record::wide;
 use crate::table;
 use crate::table::Table;
@@ -52,45 +54,43 @@ fn number(x: u16) -> usize {
     x as usize
 }
 
-// Writes a slot of the front. Whether a slot behind it stayed.
-fn put_slot(out: &mut [u8], slots: [u16; 28], count: usize, i: usize) -> bool
+// Writes a slot of the front. A slot behind it must have stayed.
+fn put_slot(t: Table, slots: [u16; 28], count: usize, i: usize) -> Table
     requires { ⌜ i < 28 ⌝ }
 {
+    let slot = slots[i];
     if i < count {
-        put_short(out, 8 + 2 * i, number(slots[i]));
-        return true;
+        return put_short(t, 8 + 2 * i, number(slot));
     }
-    slots[i] == FILL_SLOT
+    table::marked(t, slot == FILL_SLOT)
 }
 
-fn put_front(out: &mut [u8], slots: [u16; 28], count: usize) -> bool {
+fn put_front(t: Table, slots: [u16; 28], count: usize) -> Table {
+    let mut after = t;
     let mut i: usize = 0;
     while i < N_LIST {
-        if !put_slot(out, slots, count, i) {
-            return false;
-        }
+        after = put_slot(after, slots, count, i);
         i += 1;
     }
-    true
+    after
 }
 
-fn put_listing(t: Table, out: &mut [u8], pruned: bool, room: usize, count: usize) -> Table {
+// The twin gives the refusal, and must count alike.
+fn put_listing(t: Table, pruned: bool, room: usize, count: usize) -> Table {
     let twin = engine::list_count(t.position, pruned, room);
-    put(out, 1, twin.refusal);
-    put_short(out, 4, count);
-    table::marked(table::read(t, twin.position), count == twin.count)
+    let a = put_short(put(t, 1, twin.refusal), 4, count);
+    table::marked(table::read(a, twin.position), count == twin.count)
 }
 
-pub fn list(t: Table, r: &[u8], out: &mut [u8]) -> Table {
-    let pruned = byte(r, 2) == 1;
-    let room = wide(byte(r, 3));
+pub fn list(t: Table) -> Table {
+    let pruned = byte(t, 2) == 1;
+    let room = small(t, 3);
     if N_LIST < room {
         return table::marked(t, false);
     }
     let f = listed(t.position, pruned, room);
     let slots = f.slots;
-    let after = put_listing(t, out, pruned, room, f.count);
-    table::marked(after, put_front(out, slots, f.count))
+    put_front(put_listing(t, pruned, room, f.count), slots, f.count)
 }
 
 // The answer of the piles, and the whole buffer after it.
@@ -110,54 +110,57 @@ fn shown(p: Position, room: usize) -> Faces
     }
 }
 
-// Writes the n cards of pile p. Whether its unused bytes became 255.
-fn put_pile(out: &mut [u8], at: usize, bytes: &[u8], p: usize, n: usize) -> bool
+// Writes the n cards of pile p. Its unused bytes must have become 255.
+fn put_pile(t: Table, at: usize, bytes: &[u8], p: usize, n: usize) -> Table
     requires { ⌜ (at < 128) × (p < 7) × (n ≤ 13) ⌝ }
 {
-    copy(bytes, ROW * p, out, at, n);
-    all_are(part(bytes, ROW * p + n, ROW - n), 0, UNUSED)
+    let after = copy(bytes, ROW * p, t, at, n);
+    table::marked(after, all_are(part(bytes, ROW * p + n, ROW - n), UNUSED))
 }
 
 // Writes the cards of the piles, one pile after the other.
-fn put_piles(out: &mut [u8], bytes: &[u8], lengths: &[u8]) -> bool {
+fn put_piles(t: Table, bytes: &[u8], lengths: &[u8]) -> Table {
+    let mut after = t;
     let mut at: usize = 10;
     let mut p: usize = 0;
     while p < N_PILES {
-        let n = wide(byte(lengths, p));
+        let n = wide(get(lengths, p));
         if ROW < n {
-            return false;
+            return table::marked(after, false);
         }
-        if !put_pile(out, at, bytes, p, n) {
-            return false;
-        }
+        after = put_pile(after, at, bytes, p, n);
         at += n;
         p += 1;
     }
-    true
+    after
 }
 
-// A refused call leaves the whole buffer, and an accepted one what is behind the piles.
-fn put_shown(out: &mut [u8], a: Piled, bytes: [u8; 128]) -> bool {
-    let lengths = a.lengths;
-    put(out, 1, a.refusal);
-    copy(&lengths, 0, out, 3, N_PILES);
-    if a.refusal != 0 {
-        return all_are(&bytes, 0, FILL);
-    }
-    if !put_piles(out, &bytes, &lengths) {
-        return false;
-    }
-    all_are(&bytes, PILE_BYTES, FILL)
+// An accepted call leaves what is behind the piles.
+fn put_faces(t: Table, bytes: [u8; 128], lengths: [u8; 7]) -> Table {
+    let after = put_piles(t, &bytes, &lengths);
+    table::marked(
+        after,
+        all_are(part(&bytes, PILE_BYTES, N_BYTES - PILE_BYTES), FILL),
+    )
 }
 
-pub fn face_up(t: Table, r: &[u8], out: &mut [u8]) -> Table {
-    let room = wide(byte(r, 2));
+// A refused call leaves the whole buffer.
+fn put_shown(t: Table, refusal: u8, lengths: [u8; 7], bytes: [u8; 128]) -> Table {
+    let after = copy(&lengths, 0, put(t, 1, refusal), 3, N_PILES);
+    if refusal == 0 {
+        return put_faces(after, bytes, lengths);
+    }
+    table::marked(after, all_are(&bytes, FILL))
+}
+
+pub fn face_up(t: Table) -> Table {
+    let room = small(t, 2);
     if N_BYTES < room {
         return table::marked(t, false);
     }
     let s = shown(t.position, room);
     let a = s.answer;
     let bytes = s.bytes;
-    let kept = put_shown(out, a, bytes);
-    table::marked(table::read(t, a.position), kept)
+    let lengths = a.lengths;
+    put_shown(table::read(t, a.position), a.refusal, lengths, bytes)
 }

@@ -10,6 +10,7 @@ mod starts;
 mod table;
 mod views;
 
+ghost use Prim.Native.Nat.{_<_};
 use libc::STDIN_FILENO;
 use record::SIZE;
 use record::copy;
@@ -21,38 +22,50 @@ const LETTER: u8 = b'R';
 
 const VERSION: u8 = 1;
 
-// Copies a record's tag and inputs: the other bytes are to be found.
-fn inputs(tag: u8, r: &[u8], out: &mut [u8]) {
-    copy(r, 0, out, 0, 1);
+// The first input's place, after the tag and the refusal.
+fn inputs_at(tag: u8) -> usize
+    ensures { λ r. ⌜ r < 4 ⌝ }
+{
+    if tag == 12 { 3 } else { 2 }
+}
+
+// How many bytes of inputs there are from there on. A resume's other card and the entries of a record are copied with their answers.
+fn n_inputs(tag: u8) -> usize
+    ensures { λ r. ⌜ r < 64 ⌝ }
+{
     match tag {
-        1 => copy(r, 2, out, 2, 54),
-        2 => {
-            copy(r, 2, out, 2, 10);
-            copy(r, 20, out, 20, 2);
-        }
-        3 | 4 => copy(r, 2, out, 2, 6),
-        6 => copy(r, 2, out, 2, 2),
-        12 => copy(r, 3, out, 3, 9),
-        14 => copy(r, 2, out, 2, 3),
-        8 => {}
-        _ => copy(r, 2, out, 2, 1),
+        1 => 54,
+        2 => 10,
+        3 | 4 => 6,
+        6 => 2,
+        8 => 0,
+        12 => 9,
+        14 => 3,
+        _ => 1,
     }
 }
 
+// Copies a record's tag and inputs: the other bytes are to be found.
+fn inputs(t: Table, tag: u8) -> Table {
+    let row = t.row;
+    let at = inputs_at(tag);
+    copy(&row, at, record::put(t, 0, tag), at, n_inputs(tag))
+}
+
 // Answers a record anew.
-fn answer(t: Table, tag: u8, r: &[u8], out: &mut [u8]) -> Table {
+fn answer(t: Table, tag: u8) -> Table {
     match tag {
-        1 => starts::deal(t, r, out),
-        2 => starts::resume(t, r, out),
-        3 => plays::make(t, r, out),
-        4 => plays::undo(t, r, out),
-        5 => views::masks(t, r, out),
-        6 => lists::list(t, r, out),
-        7 => lists::face_up(t, r, out),
-        8 => views::view(t, out),
-        9 | 10 | 11 | 13 => entries::several(t, tag, r, out),
-        12 => starts::ladder(t, r, out),
-        14 => set::set(t, r),
+        1 => starts::deal(t),
+        2 => starts::resume(t),
+        3 => plays::make(t),
+        4 => plays::undo(t),
+        5 => views::masks(t),
+        6 => lists::list(t),
+        7 => lists::face_up(t),
+        8 => views::view(t),
+        9 | 10 | 11 | 13 => entries::several(t, tag),
+        12 => starts::ladder(t),
+        14 => set::set(t),
         _ => table::marked(t, false),
     }
 }
@@ -64,29 +77,33 @@ struct Run {
     ended: bool,
 }
 
-// Reads a record and answers it.
-fn step(run: Run) -> Run {
-    let mut r = [0u8; SIZE];
-    let n = io::read_full(STDIN_FILENO, &mut r);
-    let before = table::ready(run.table);
+fn stopped(run: Run) -> Run {
+    let mut after = run;
+    after.ended = true;
+    after
+}
+
+// A record is answered and counted.
+fn counted(run: Run, row: [u8; 64]) -> Run {
+    let t = table::ready(run.table, row);
+    let tag = record::byte(t, 0);
+    let after = answer(inputs(t, tag), tag);
     let tally = run.tally;
-    if n != SIZE {
-        return Run {
-            table: before,
-            tally: tally,
-            ended: true,
-        };
-    }
-    let tag = record::byte(&r, 0);
-    let mut out = [0u8; SIZE];
-    inputs(tag, &r, &mut out);
-    let after = answer(before, tag, &r, &mut out);
-    let at = record::difference(&r, &out);
     Run {
         table: after,
-        tally: tally.counted(tag, at, after.kept),
+        tally: tally.counted(tag, record::difference(after), after.kept),
         ended: false,
     }
+}
+
+// Reads a record and answers it.
+fn step(run: Run) -> Run {
+    let mut row = [0u8; SIZE];
+    let n = io::read_full(STDIN_FILENO, &mut row);
+    if n != SIZE {
+        return stopped(run);
+    }
+    counted(run, row)
 }
 
 // So many records, or as many as there are.
@@ -113,22 +130,8 @@ fn at_end() -> bool {
     io::read_full(STDIN_FILENO, &mut r) == 0
 }
 
-fn main() {
-    let mut head = [0u8; SIZE];
-    let n = io::read_full(STDIN_FILENO, &mut head);
-    if n != SIZE {
-        report::say(b"no header\n");
-        return;
-    }
-    if record::byte(&head, 0) != LETTER {
-        report::say(b"no header\n");
-        return;
-    }
-    if record::byte(&head, 1) != VERSION {
-        report::say(b"another version\n");
-        return;
-    }
-    let records = record::long(&head, 4);
+// As many records as the header says, and no more.
+fn all(records: u64) {
     let tally = replay(records);
     report::print(tally);
     if tally.records != records {
@@ -138,4 +141,26 @@ fn main() {
     if !at_end() {
         report::say(b"more than the header says\n");
     }
+}
+
+fn after_header(head: Table) {
+    if record::byte(head, 0) != LETTER {
+        report::say(b"no header\n");
+        return;
+    }
+    if record::byte(head, 1) != VERSION {
+        report::say(b"another version\n");
+        return;
+    }
+    all(record::long(head, 4));
+}
+
+fn main() {
+    let mut head = [0u8; SIZE];
+    let n = io::read_full(STDIN_FILENO, &mut head);
+    if n != SIZE {
+        report::say(b"no header\n");
+        return;
+    }
+    after_header(table::ready(table::new(), head));
 }

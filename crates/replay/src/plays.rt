@@ -14,29 +14,25 @@ use rules::Position;
 use rules::TurnedUp;
 
 // The visible mask of the position, and 0 after a refusal.
-fn put_visible(t: Table, out: &mut [u8], refusal: u8) {
-    if refusal == 0 {
-        let p = t.position;
-        put_long(out, 24, p.visible);
+fn put_visible(t: Table, refusal: u8) -> Table {
+    if refusal != 0 {
+        return t;
     }
+    let p = t.position;
+    put_long(t, 24, p.visible)
 }
 
 // What a move and an undo both answer.
-fn arrived(t: Table, out: &mut [u8], refusal: u8, count: usize) -> Table {
-    put(out, 1, refusal);
-    put_short(out, 8, count);
-    put_visible(t, out, refusal);
-    starts::put_code(t, out, 16, refusal)
+fn arrived(t: Table, refusal: u8, count: usize) -> Table {
+    let a = put_short(put(t, 1, refusal), 8, count);
+    starts::put_code(put_visible(a, refusal), 16, refusal)
 }
 
-fn put_turned(out: &mut [u8], turned: TurnedUp) {
+fn put_turned(t: Table, turned: TurnedUp) -> Table {
     match turned {
-        TurnedUp::Nothing => {}
-        TurnedUp::Emptied => put(out, 11, 1),
-        TurnedUp::Card(c) => {
-            put(out, 11, 2);
-            put(out, 12, c.0);
-        }
+        TurnedUp::Nothing => t,
+        TurnedUp::Emptied => put(t, 11, 1),
+        TurnedUp::Card(c) => put(put(t, 11, 2), 12, c.0),
     }
 }
 
@@ -88,11 +84,10 @@ fn expected(before: [u16; 64], count: usize, refusal: u8, written: u16) -> [u16;
     with_slot(before, count, written)
 }
 
-fn put_move(out: &mut [u8], m: Moved, written: u16) {
-    put(out, 10, m.byte);
+fn put_move(t: Table, m: Moved, written: u16) -> Table {
     let turned = m.turned;
-    put_turned(out, turned);
-    put_short(out, 14, number(written));
+    let a = put_turned(put(t, 10, m.byte), turned);
+    put_short(a, 14, number(written))
 }
 
 // The history after a move, held against the one before.
@@ -104,25 +99,24 @@ fn with_history(t: Table, after: [u16; 64], count: usize, refusal: u8, written: 
     u
 }
 
-pub fn make(t: Table, r: &[u8], out: &mut [u8]) -> Table {
-    let room = short(r, 4);
-    let count = short(r, 6);
+// A move's answer, and the history and the position after it.
+fn made(t: Table, x: Attempt, room: usize, count: usize) -> Table {
+    let m = x.answer;
+    let after = x.history;
+    let written = slot(after, room, count);
+    let u = with_history(put_move(t, m, written), after, count, m.refusal, written);
+    arrived(table::moved(u, m.refusal, m.position), m.refusal, m.count)
+}
+
+pub fn make(t: Table) -> Table {
+    let room = short(t, 4);
+    let count = short(t, 6);
     if N_SLOTS < room {
         return table::marked(t, false);
     }
     let before = t.history;
-    let x = tried(t.position, before, room, count, byte(r, 2), byte(r, 3));
-    let m = x.answer;
-    let after = x.history;
-    let written = slot(after, room, count);
-    put_move(out, m, written);
-    let u = with_history(t, after, count, m.refusal, written);
-    arrived(
-        table::moved(u, m.refusal, m.position),
-        out,
-        m.refusal,
-        m.count,
-    )
+    let x = tried(t.position, before, room, count, byte(t, 2), byte(t, 3));
+    made(t, x, room, count)
 }
 
 // The record's entry is put last first.
@@ -142,21 +136,27 @@ fn gone_back(p: Position, history: [u16; 64], room: usize, count: usize) -> rule
     engine::undo_move(p, &history[..room], count)
 }
 
-pub fn undo(t: Table, r: &[u8], out: &mut [u8]) -> Table {
-    let room = short(r, 4);
-    let count = short(r, 6);
-    if N_SLOTS < room {
-        return table::marked(t, false);
-    }
-    let before = t.history;
-    let history = with_entry(before, room, count, short(r, 2) as u16);
+// The undo of the last entry of a history.
+fn unmade(t: Table, history: [u16; 64], room: usize, count: usize) -> Table
+    requires { ⌜ room ≤ 64 ⌝ }
+{
     let u = gone_back(t.position, history, room, count);
     let mut after = t;
     after.history = history;
     arrived(
         table::moved(after, u.refusal, u.position),
-        out,
         u.refusal,
         u.count,
     )
+}
+
+pub fn undo(t: Table) -> Table {
+    let room = short(t, 4);
+    let count = short(t, 6);
+    if N_SLOTS < room {
+        return table::marked(t, false);
+    }
+    let before = t.history;
+    let history = with_entry(before, room, count, short(t, 2) as u16);
+    unmade(t, history, room, count)
 }

@@ -1,5 +1,7 @@
 // How many records of each kind came out right, and the first that did not.
+ghost use Prim.Native.Nat.{_<_};
 use crate::record::SIZE;
+use crate::record::part;
 use libc::STDOUT_FILENO;
 
 // The tags are 1 to 14.
@@ -81,70 +83,75 @@ pub fn say(text: &[u8]) {
     io::write_all(STDOUT_FILENO, text);
 }
 
-fn name(tag: usize) {
-    match tag {
-        1 => say(b"deal"),
-        2 => say(b"resume"),
-        3 => say(b"move"),
-        4 => say(b"undo"),
-        5 => say(b"masks"),
-        6 => say(b"listing"),
-        7 => say(b"piles"),
-        8 => say(b"view"),
-        9 => say(b"tests"),
-        10 => say(b"finds"),
-        11 => say(b"offsets"),
-        12 => say(b"ladder"),
-        13 => say(b"cursors"),
-        14 => say(b"set"),
-        _ => say(b"no tag"),
-    }
-}
-
 fn number(n: u64) {
     io::print_decimal(STDOUT_FILENO, n);
 }
 
+// Where the name of a tag starts among the names, and how long it is. The first is the name of a number that is no tag.
+const NAME_AT: [usize; 15] = [0, 6, 10, 16, 20, 24, 29, 36, 41, 45, 50, 55, 62, 68, 75];
+
+const NAME_LENGTH: [usize; 15] = [6, 4, 6, 4, 4, 5, 7, 5, 4, 5, 5, 7, 6, 7, 3];
+
+fn known(tag: usize) -> usize
+    ensures { λ r. ⌜ r < 15 ⌝ }
+{
+    if tag < N_TAGS { tag } else { 0 }
+}
+
+fn name(tag: usize) {
+    let i = known(tag);
+    say(part(
+        b"no tagdealresumemoveundomaskslistingpilesviewtestsfindsoffsetsladdercursorsset",
+        NAME_AT[i],
+        NAME_LENGTH[i],
+    ));
+}
+
+// A number after a text.
+fn told(text: &[u8], n: u64) {
+    say(text);
+    number(n);
+}
+
+// The end of a line: how many differ.
+fn differ(text: &[u8], n: u64) {
+    told(text, n);
+    say(b" differ\n");
+}
+
 fn line(tag: usize, count: u64, wrong: u64) {
     name(tag);
-    say(b" ");
-    number(count);
+    told(b" ", count);
     if wrong == 0 {
         say(b" ok\n");
         return;
     }
-    say(b", ");
-    number(wrong);
-    say(b" differ\n");
+    differ(b", ", wrong);
 }
 
-fn lines(of_tag: &[u64], wrong_of_tag: &[u64]) {
+fn lines(of_tag: [u64; 15], wrong_of_tag: [u64; 15]) {
     let mut tag: usize = 1;
     while tag < N_TAGS {
-        if tag < of_tag.len() {
-            if tag < wrong_of_tag.len() {
-                line(tag, of_tag[tag], wrong_of_tag[tag]);
-            }
-        }
+        line(tag, of_tag[tag], wrong_of_tag[tag]);
         tag += 1;
     }
+}
+
+fn first(record: u64, tag: u8, at: usize) {
+    told(b"first: record ", record);
+    say(b", ");
+    name(tag as usize);
+    told(b", byte ", at as u64);
+    say(b"\n");
 }
 
 pub fn print(t: Tally) {
     let counts = t.of_tag;
     let wrong = t.wrong_of_tag;
-    lines(&counts, &wrong);
+    lines(counts, wrong);
     if t.wrong != 0 {
-        say(b"first: record ");
-        number(t.first);
-        say(b", ");
-        name(t.first_tag as usize);
-        say(b", byte ");
-        number(t.first_byte as u64);
-        say(b"\n");
+        first(t.first, t.first_tag, t.first_byte);
     }
     number(t.records);
-    say(b" records, ");
-    number(t.wrong);
-    say(b" differ\n");
+    differ(b" records, ", t.wrong);
 }

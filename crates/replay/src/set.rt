@@ -1,7 +1,6 @@
 // Tag 14: a number of the position is set, so that positions come up that are not proper.
 use crate::record::byte;
-use crate::record::put;
-use crate::record::wide;
+use crate::record::small;
 use crate::table::Table;
 use rules::Position;
 
@@ -20,9 +19,11 @@ const LEFT: u8 = 5;
 
 const OFFSET: u8 = 6;
 
-fn with_deal(p: Position, index: usize, value: u8) -> Position {
+pub fn with_deal(p: Position, index: usize, value: u8) -> Position {
     let mut deal = p.deal;
-    put(&mut deal, index, value);
+    if index < 52 {
+        deal[index] = value;
+    }
     let mut q = p;
     q.deal = deal;
     q
@@ -30,7 +31,9 @@ fn with_deal(p: Position, index: usize, value: u8) -> Position {
 
 fn with_counts(p: Position, index: usize, value: u8) -> Position {
     let mut counts = p.counts;
-    put(&mut counts, index, value);
+    if index < 7 {
+        counts[index] = value;
+    }
     let mut q = p;
     q.counts = counts;
     q
@@ -38,7 +41,9 @@ fn with_counts(p: Position, index: usize, value: u8) -> Position {
 
 fn with_heights(p: Position, index: usize, value: u8) -> Position {
     let mut heights = p.heights;
-    put(&mut heights, index, value);
+    if index < 4 {
+        heights[index] = value;
+    }
     let mut q = p;
     q.heights = heights;
     q
@@ -46,7 +51,9 @@ fn with_heights(p: Position, index: usize, value: u8) -> Position {
 
 fn with_deck(p: Position, index: usize, value: u8) -> Position {
     let mut deck = p.deck;
-    put(&mut deck, index, value);
+    if index < 24 {
+        deck[index] = value;
+    }
     let mut q = p;
     q.deck = deck;
     q
@@ -87,8 +94,8 @@ fn changed(p: Position, field: u8, index: usize, value: u8) -> Position {
     }
 }
 
-pub fn set(t: Table, r: &[u8]) -> Table {
-    let q = changed(t.position, byte(r, 2), wide(byte(r, 3)), byte(r, 4));
+pub fn set(t: Table) -> Table {
+    let q = changed(t.position, byte(t, 2), small(t, 3), byte(t, 4));
     let mut after = t;
     after.position = q;
     after

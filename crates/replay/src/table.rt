@@ -1,14 +1,17 @@
-// The position and the history that the records' calls act on.
+// The position and the history that the records' calls act on, and the record at hand: as it was read, and as it is answered anew.
+// It goes from function to function by value: that proves faster than lent memory.
 use rules::Position;
 
 // The history's slots.
 pub const N_SLOTS: usize = 64;
 
-// `kept` says that the last call kept what no byte of a record shows: the given position, the history, the buffers.
+// `kept` says that the record's calls kept what no byte of a record shows: the given position, the history, the buffers.
 pub struct Table {
     pub position: Position,
     pub history: [u16; 64],
     pub kept: bool,
+    pub row: [u8; 64],
+    pub out: [u8; 64],
 }
 
 // The position of a refused deal or resume: all numbers 0.
@@ -30,13 +33,17 @@ pub fn new() -> Table {
         position: blank(),
         history: [0u16; 64],
         kept: true,
+        row: [0u8; 64],
+        out: [0u8; 64],
     }
 }
 
-// Before a record: nothing is amiss yet.
-pub fn ready(t: Table) -> Table {
+// A record comes to be answered: nothing is amiss yet.
+pub fn ready(t: Table, row: [u8; 64]) -> Table {
     let mut after = t;
     after.kept = true;
+    after.row = row;
+    after.out = [0u8; 64];
     after
 }
 
@@ -116,11 +123,10 @@ pub fn read(t: Table, p: Position) -> Table {
 // After a deal or a resume: the new position with nothing done, or the old one.
 pub fn started(t: Table, refusal: u8, p: Position) -> Table {
     if refusal == 0 {
-        return Table {
-            position: p,
-            history: [0u16; 64],
-            kept: t.kept,
-        };
+        let mut after = t;
+        after.position = p;
+        after.history = [0u16; 64];
+        return after;
     }
     marked(t, same(p, blank()))
 }

@@ -1,16 +1,14 @@
 -- `replay::entries::several` is safe and ends.
 -- Assumes nothing.
 use borrow.Author.Needs.{needs}
-use mathlib.Core.Path.{_≡_}
-use lib.ListN.{length}
 use Rattle.replay.proofs.entries.several.Statement.{statement}
 use Rattle.replay.proofs.entries.several.Tie as tie
 
 abbrev Inv-loop : tie.InvT-loop
-Inv-loop tag r out₀ w left₀ at₀ after₀ out left at after = length out ≡ length out₀
+Inv-loop tag w left₀ at₀ after₀ left at after = Unit {0}
 
 abbrev μ-loop : tie.MeasureT-loop
-μ-loop tag r out₀ w left₀ at₀ after₀ out left at after = left
+μ-loop tag w left₀ at₀ after₀ left at after = left
 
 width-requires : tie.Need-width-requires Inv-loop μ-loop
 width-requires c κs = search needs
@@ -42,9 +40,6 @@ loop-less-2 c = search needs
 loop-again-2 : tie.Need-loop-again-2 Inv-loop μ-loop
 loop-again-2 c = search needs
 
-same-length : tie.Need-same-length Inv-loop μ-loop
-same-length c = search needs
-
 returns : tie.Need-returns Inv-loop μ-loop
 returns c = search needs
 
@@ -64,5 +59,4 @@ several-spec =
     loop-again
     loop-less-2
     loop-again-2
-    same-length
     returns)

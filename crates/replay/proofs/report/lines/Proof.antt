@@ -17,14 +17,14 @@ loop-holds c = search needs
 mul-line : tie.Need-mul-line Inv-loop μ-loop
 mul-line c = search needs
 
-shared-slice-read-line : tie.Need-shared-slice-read-line Inv-loop μ-loop
-shared-slice-read-line c = search needs
+array-read-line : tie.Need-array-read-line Inv-loop μ-loop
+array-read-line c = search needs
 
 mul-line-2 : tie.Need-mul-line-2 Inv-loop μ-loop
 mul-line-2 c = search needs
 
-shared-slice-read-line-2 : tie.Need-shared-slice-read-line-2 Inv-loop μ-loop
-shared-slice-read-line-2 c = search needs
+array-read-line-2 : tie.Need-array-read-line-2 Inv-loop μ-loop
+array-read-line-2 c = search needs
 
 line-requires : tie.Need-line-requires Inv-loop μ-loop
 line-requires c κs = search needs
@@ -49,9 +49,9 @@ lines-spec =
     μ-loop
     loop-holds
     mul-line
-    shared-slice-read-line
+    array-read-line
     mul-line-2
-    shared-slice-read-line-2
+    array-read-line-2
     line-requires
     add-tag
     loop-less
