@@ -154,10 +154,11 @@ pub fn encode(p: Position) -> u64
 {
     let heights = p.heights;
     let counts = p.counts;
+    let gone = p.visible | proper::foundation_mask(&heights);
     let offset = deck::normalized_offset(p.left, p.step, p.offset);
     stack::encode(heights) as u64
         | (hidden::encode(&counts) as u64) << PILES_AT
-        | (deck::encode(p) as u64) << DECK_AT
+        | (deck::encode(p, gone) as u64) << DECK_AT
         | (offset as u64) << OFFSET_AT
 }
 
