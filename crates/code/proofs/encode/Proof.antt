@@ -21,9 +21,6 @@ foundation-mask-requires : tie.Need-foundation-mask-requires
 unfolding height
 foundation-mask-requires c κs = let s = c .before .before .before in ranges (s .args .p) (s .pre) .heights
 
-normalized-offset-requires : tie.Need-normalized-offset-requires
-normalized-offset-requires c κs = let s = c .before .before .before .before .before in step-low _ (ranges (s .args .p) (s .pre) .step)
-
 encode-requires : tie.Need-encode-requires
 encode-requires c κs = search needs
 
@@ -32,7 +29,7 @@ cast-result c = search needs
 
 encode-requires-2 : tie.Need-encode-requires-2
 unfolding count
-encode-requires-2 c κs = let s = c .before .before .before .before .before .before .before .before in ranges (s .args .p) (s .pre) .counts
+encode-requires-2 c κs = let s = c .before .before .before .before .before .before .before in ranges (s .args .p) (s .pre) .counts
 
 cast-result-2 : tie.Need-cast-result-2
 cast-result-2 c = search needs
@@ -45,7 +42,7 @@ shl-result c = search needs
 
 encode-requires-3 : tie.Need-encode-requires-3
 encode-requires-3 c κs =
-    let f = c .before .before .before .before .before in
+    let f = c .before .before .before .before in
     let s = f .before .before .before .before in
     (s .pre, gone-is (s .args .p) (ranges (s .args .p) (s .pre)) _ (f .foundation-mask .ensures))
 
@@ -57,6 +54,9 @@ cast-result-5 c = search needs
 
 shl-result-2 : tie.Need-shl-result-2
 shl-result-2 c = search needs
+
+normalized-offset-requires : tie.Need-normalized-offset-requires
+normalized-offset-requires c κs = let s = c .before .before .before .before .before .before .before .before .before in step-low _ (ranges (s .args .p) (s .pre) .step)
 
 cast-result-6 : tie.Need-cast-result-6
 cast-result-6 c = search needs
@@ -70,14 +70,13 @@ shl-result-3 c = search needs
 returns : tie.Need-returns
 returns c =
     let b = c .before .before .before .before .before .before .before .before .before .before in
-    code-is (b .args .p) (ranges (b .args .p) (b .pre)) _ _ _ _ (c .before .before .before .encode .ensures) (c .before .encode2 .ensures) (c .encode3 .ensures) (c .before .before .before .before .normalized-offset .ensures)
+    code-is (b .args .p) (ranges (b .args .p) (b .pre)) _ _ _ _ (c .before .before .before .before .encode .ensures) (c .before .before .encode2 .ensures) (c .before .encode3 .ensures) (c .normalized-offset .ensures)
 
 pub encode-spec : {M : Type 1} → statement M
 encode-spec =
     tie.close
     (tie.spec
     foundation-mask-requires
-    normalized-offset-requires
     encode-requires
     cast-result
     encode-requires-2
@@ -88,6 +87,7 @@ encode-spec =
     cast-result-4
     cast-result-5
     shl-result-2
+    normalized-offset-requires
     cast-result-6
     cast-result-7
     shl-result-3
