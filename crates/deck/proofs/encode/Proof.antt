@@ -66,9 +66,9 @@ loop-again c =
     let more : suc (24 - l .k) ≡ 24 - (l .k - 1) = omega (arith, c .loop-test .taken, l .inv .0) in (
       omega (arith, l .inv .0),
       ap (λ (f : ℕ). bitOr (f * 2 ^ 1 % 2 ^ 32) (bitAnd (m / 2 ^ x) 1)) (l .inv .1)
-      ∙ ap (bitOr (maskOf (24 - l .k) (at (l .k)) * 2 ^ 1 % 2 ^ 32)) (has-shr m x ∙ ap (λ (k : ℕ). num (bit m (getD d (28 + k) 0))) first)
-      ∙ put-first (at (l .k)) (at (l .k - 1)) (24 - l .k) (omega (arith, c .loop-test .taken)) (λ j. ap (λ (k : ℕ). bit m (getD d (28 + k) 0)) (up j))
-      ∙ ap (λ (n : ℕ). maskOf n (at (l .k - 1))) more,
+          ∙ ap (bitOr (maskOf (24 - l .k) (at (l .k)) * 2 ^ 1 % 2 ^ 32)) (has-shr m x ∙ ap (λ (k : ℕ). num (bit m (getD d (28 + k) 0))) first)
+          ∙ put-first (at (l .k)) (at (l .k - 1)) (24 - l .k) (omega (arith, c .loop-test .taken)) (λ j. ap (λ (k : ℕ). bit m (getD d (28 + k) 0)) (up j))
+          ∙ ap (λ (n : ℕ). maskOf n (at (l .k - 1))) more,
     )
 
 returns : tie.Need-returns Inv-loop μ-loop
@@ -84,11 +84,11 @@ returns c =
     l .inv .1
     ∙ ap (λ (n : ℕ). maskOf (24 - n) (λ j. bit m (getD d (28 + (n + j)) 0))) e
     ∙ mask-ext 24 _ _ (λ k h. let z : 0 + k ≡ k = omega arith in
-      ap (λ (i : ℕ). bit m (getD d (28 + i) 0)) z
-      ∙ bit-not (s .args .gone) (getD d (28 + k) 0) small (omega (arith, card (c .before) k h))
-      ∙ ap (λ (g : ℕ). not (bit g (getD d (28 + k) 0))) (s .pre .1)
-      ∙ ap not (bit-mask 52 _ (getD d (28 + k) 0) (card (c .before) k h))
-      ∙ still-there p (facts p (s .pre .0)) k h)
+    ap (λ (i : ℕ). bit m (getD d (28 + i) 0)) z
+    ∙ bit-not (s .args .gone) (getD d (28 + k) 0) small (omega (arith, card (c .before) k h))
+    ∙ ap (λ (g : ℕ). not (bit g (getD d (28 + k) 0))) (s .pre .1)
+    ∙ ap not (bit-mask 52 _ (getD d (28 + k) 0) (card (c .before) k h))
+    ∙ still-there p (facts p (s .pre .0)) k h)
 
 pub encode-spec : {M : Type 1} → statement M
 encode-spec = tie.close (tie.spec Inv-loop μ-loop loop-holds sub-k add-c array-read-c cast-field shr-field cast-field-2 loop-less loop-again returns)
