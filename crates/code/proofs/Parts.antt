@@ -1,7 +1,7 @@
 -- The fields of a code, as they are put together and as they are taken apart, are those of the definition.
 -- Assumes nothing.
-use mathlib.Core.Bool.{Bool, true, false, not}
-use mathlib.Core.Path.{_≡_, refl, ap, _∙_}
+use mathlib.Core.Bool.{Bool, true, false, not, _||_}
+use mathlib.Core.Path.{_≡_, refl, ap, ap₂, _∙_}
 use mathlib.Core.List.{List, _∷_, [], _++_, map}
 use Prim.Native.Nat.{ℕ, zero, suc, _+_, _-_, _*_, _/_, _%_, _^_, _≤_, _<_}
 use native.Mathlib.Omega.{arith}
@@ -9,11 +9,12 @@ use lib.Dec.{ltb, leb, lit<}
 use lib.ListN.{length, getD, take, replicate}
 use lib.Bits.{bitOr, or-shifted-r}
 use borrow.Author.Tests.{ltb-true, ltb-false, le-leb, lt-leb}
-use Rattle.bits.specs.Bit.{bit, countOf, listOf}
+use Rattle.bits.specs.Bit.{bit, maskOf, countOf, listOf}
 use Rattle.bits.proofs.Laws.{mask-lt}
+use Rattle.bits.proofs.Algebra.{mask-self, or-masks}
 use Rattle.rules.specs.declared.Position.{Position}
 use Rattle.rules.specs.Bits.{anyOf}
-use Rattle.rules.specs.Places.{count, height, inDeck, stockCard}
+use Rattle.rules.specs.Places.{count, height, inDeck, isVisible, onFoundation, stockCard}
 use Rattle.rules.specs.Proper.{areCards}
 use Rattle.rules.specs.Foundations.{validOn, fieldOn}
 use Rattle.rules.specs.Play.{slots}
@@ -23,6 +24,7 @@ use Rattle.rules.proofs.ProperMade.{Numbers, any-none}
 use Rattle.rules.proofs.PileField.{table-ext, field-low}
 use Rattle.rules.proofs.Digits.{below4, has-bit, stored-fits, code-fits}
 use Rattle.rules.proofs.DealLaw.{cards-low}
+use Rattle.proper.specs.Masks.{stacked}
 use Rattle.code.specs.Starts.{Ranged}
 use Rattle.code.proofs.Arranging.{all-not}
 
@@ -58,6 +60,11 @@ module _ (p : Position) (n : Numbers p) where
       rw (eh, ec, ed, eo)
       (joined (fieldOn (p .heights)) (countsField (p .counts)) (deckField p) (storedOffset (p .left) (p .step) (p .offset)) heights-low piles-low deck-low
       (omega (arith, stored-fits (p .left) (p .step) (p .offset) (n .offset), n .left)))
+
+  -- the cards that are neither buried nor in the deck
+  pub gone-is : (m : ℕ) → m ≡ maskOf 52 (stacked (p .heights)) → bitOr (p .visible) m ≡ maskOf 52 (λ c. isVisible p c || onFoundation p c)
+  unfolding isVisible onFoundation height stacked
+  gone-is m e = ap₂ bitOr (mask-self 52 (p .visible) (n .visible)) e ∙ or-masks 52 (bit (p .visible)) (stacked (p .heights))
 
 -- ---- taken apart
 

@@ -147,18 +147,18 @@ const LOW_16: u64 = 0xFFFF;
 
 const LOW_24: u64 = 0xFF_FFFF;
 
-// The save code.
+// The save code. The offset comes last: a division and a branch, which would part the reading of the 24 places from their use.
 pub fn encode(p: Position) -> u64
     requires { ⌜ T (proper p) ⌝ }
     ensures { λ r. ⌜ r ≡ codeOf p ⌝ }
 {
     let heights = p.heights;
     let counts = p.counts;
-    let offset = deck::normalized_offset(p.left, p.step, p.offset);
+    let gone = p.visible | proper::foundation_mask(&heights);
     stack::encode(heights) as u64
         | (hidden::encode(&counts) as u64) << PILES_AT
-        | (deck::encode(p) as u64) << DECK_AT
-        | (offset as u64) << OFFSET_AT
+        | (deck::encode(p, gone) as u64) << DECK_AT
+        | (deck::normalized_offset(p.left, p.step, p.offset) as u64) << OFFSET_AT
 }
 
 // The four fields of a save code.

@@ -1,23 +1,26 @@
 -- The field of places, a place at a time: written, and read into a deck.
 -- Assumes nothing.
-use mathlib.Core.Bool.{Bool, true, false}
+use mathlib.Core.Bool.{Bool, true, false, not, _||_, true≢false}
 use mathlib.Core.Path.{_≡_, refl, sym, ap, _∙_}
 use mathlib.Core.List.{List, _∷_, map}
 use Prim.Native.Nat.{ℕ, zero, suc, _+_, _-_, _*_, _/_, _%_, _^_, _≤_, _<_}
 use native.Mathlib.Nat.{mod-eq-of-lt, le-of-suc-le-suc, not-suc-le-zero, zero-add}
 use native.Mathlib.Numerals.{add-one, one-add}
 use native.Mathlib.Omega.{arith}
-use lib.Bits.{bitAnd, bitOr, or-shifted-r}
+use lib.Bits.{bitAnd, bitOr, or-shifted}
 use lib.ListN.{length, getD, length-map}
 use lib.Pow.{pow-mono}
-use mir.Val.{boolByte}
 use Rattle.bits.specs.Bit.{bit}
-use Rattle.bits.proofs.Laws.{mask-lt, has-shr, bit-shr}
+use Rattle.bits.proofs.Laws.{num-le, mask-lt, mask-ext, has-shr, bit-shr}
 use Rattle.bits.proofs.Counts.{list-length, list-ext, count-ext}
+use Rattle.rules.specs.declared.Position.{Position}
 use Rattle.rules.specs.Bits.{num, maskOf, countOf, listOf, consIf}
+use Rattle.rules.specs.Places.{stockCard, isBuried, isVisible, inDeck, onFoundation}
 use Rattle.rules.specs.Code.{deckOf, codeHas, codeLeft}
 use Rattle.rules.specs.Play.{slots}
-use Rattle.rules.proofs.Searches.{mask-snoc, count-snoc}
+use Rattle.rules.proofs.Searches.{count-snoc}
+use Rattle.rules.proofs.Facts.{Facts, sets}
+use Rattle.rules.proofs.Placed.{stock-buried}
 
 -- ---- written
 
@@ -25,18 +28,33 @@ pub no-places : (f : ℕ → Bool) → 0 ≡ maskOf 0 f
 unfolding maskOf
 no-places f = refl
 
-pub put-place : (f : ℕ → Bool) (k : ℕ) (b : Bool) → k < 24 → f k ≡ b → bitOr (maskOf k f) (boolByte b * 2 ^ k % 2 ^ 32) ≡ maskOf (k + 1) f
-put-place f k b l e =
-    ap (bitOr (maskOf k f)) (mod-eq-of-lt (small b)) ∙ or-shifted-r (boolByte b) k (maskOf k f) (mask-lt k f) ∙ turn b e
-    ∙ sym (rw add-one (mask-snoc k f))
-  where
-    small : (b : Bool) → boolByte b * 2 ^ k < 2 ^ 32
-    small true = let h : 2 ^ k ≤ 2 ^ 24 = pow-mono {i = k} {j = 24} (omega arith) in omega arith
-    small false = omega arith
+-- the places after the first, one place up, and the first
+pub put-first : (f g : ℕ → Bool) (n : ℕ) → n < 24 → ((j : ℕ) → f j ≡ g (suc j)) → bitOr (maskOf n f * 2 ^ 1 % 2 ^ 32) (num (g 0)) ≡ maskOf (suc n) g
+unfolding maskOf
+put-first f g n l e =
+    let h : 2 ^ n ≤ 2 ^ 24 = pow-mono {i = n} {j = 24} (omega arith) in
+    let low : maskOf n f * 2 ^ 1 < 2 ^ 32 = omega (arith, mask-lt n f) in
+    ap (λ (x : ℕ). bitOr x (num (g 0))) (mod-eq-of-lt low)
+    ∙ or-shifted (maskOf n f) 1 (num (g 0)) (omega (arith, num-le (g 0)))
+    ∙ ap (λ (x : ℕ). x * 2 ^ 1 + num (g 0)) (mask-ext n f (λ j. g (suc j)) (λ j k. e j))
+    ∙ omega arith
 
-    turn : (b : Bool) → f k ≡ b → boolByte b * 2 ^ k + maskOf k f ≡ maskOf k f + 2 ^ k * num (f k)
-    turn true e = rw e (omega arith)
-    turn false e = rw e (omega arith)
+-- a card of the 24 is in the deck just where it is neither visible nor on its foundation
+elsewhere : (f d b v : Bool) → num f + num d + num b + num v ≡ 1 → b ≡ false → not (v || f) ≡ d
+elsewhere true true b v h e = absurd (omega arith)
+elsewhere true false b true h e = refl
+elsewhere true false b false h e = refl
+elsewhere false true b true h e = absurd (omega arith)
+elsewhere false true b false h e = refl
+elsewhere false false b true h e = refl
+elsewhere false false true false h e = absurd (true≢false e)
+elsewhere false false false false h e = absurd (omega arith)
+
+pub still-there : (p : Position) → Facts p → (k : ℕ) → k < 24 → not (isVisible p (stockCard p k) || onFoundation p (stockCard p k)) ≡ inDeck p (stockCard p k)
+unfolding sets stockCard
+still-there p x k l =
+    let c : ℕ = stockCard p k in
+    elsewhere (onFoundation p c) (inDeck p c) (isBuried p c) (isVisible p c) (x .one-set c (x .cards (28 + k) (omega arith))) (stock-buried p (x .deal) (x .counts) k l)
 
 -- ---- read
 

@@ -4,11 +4,11 @@ use borrow.Author.Needs.{needs}
 use lib.Dec.{T}
 use Rattle.bits.proofs.Tables.{T-true}
 use Rattle.rules.specs.declared.Position.{Position}
-use Rattle.rules.specs.Places.{count}
+use Rattle.rules.specs.Places.{count, height}
 use Rattle.rules.specs.Proper.{proper}
 use Rattle.rules.proofs.ProperLaw.{parts}
 use Rattle.rules.proofs.ProperMade.{Numbers, numbers, step-low}
-use Rattle.code.proofs.Parts.{code-is}
+use Rattle.code.proofs.Parts.{code-is, gone-is}
 use Rattle.code.proofs.encode.Statement.{statement}
 use Rattle.code.proofs.encode.Tie as tie
 use Rattle.hidden.proofs.encode.Reads as encode-reads′
@@ -17,8 +17,9 @@ use Rattle.stack.proofs.encode.Reads as encode-reads′′
 ranges : (p : Position) → T (proper p) → Numbers p
 ranges p t = numbers p (parts p (T-true (proper p) t) .numbers)
 
-normalized-offset-requires : tie.Need-normalized-offset-requires
-normalized-offset-requires c κs = step-low _ (ranges (c .before .before .args .p) (c .before .before .pre) .step)
+foundation-mask-requires : tie.Need-foundation-mask-requires
+unfolding height
+foundation-mask-requires c κs = let s = c .before .before .before in ranges (s .args .p) (s .pre) .heights
 
 encode-requires : tie.Need-encode-requires
 encode-requires c κs = search needs
@@ -28,7 +29,7 @@ cast-result c = search needs
 
 encode-requires-2 : tie.Need-encode-requires-2
 unfolding count
-encode-requires-2 c κs = ranges (c .before .before .before .before .before .args .p) (c .before .before .before .before .before .pre) .counts
+encode-requires-2 c κs = let s = c .before .before .before .before .before .before .before in ranges (s .args .p) (s .pre) .counts
 
 cast-result-2 : tie.Need-cast-result-2
 cast-result-2 c = search needs
@@ -40,7 +41,10 @@ shl-result : tie.Need-shl-result
 shl-result c = search needs
 
 encode-requires-3 : tie.Need-encode-requires-3
-encode-requires-3 c κs = search needs
+encode-requires-3 c κs =
+    let f = c .before .before .before .before in
+    let s = f .before .before .before .before in
+    (s .pre, gone-is (s .args .p) (ranges (s .args .p) (s .pre)) _ (f .foundation-mask .ensures))
 
 cast-result-4 : tie.Need-cast-result-4
 cast-result-4 c = search needs
@@ -50,6 +54,9 @@ cast-result-5 c = search needs
 
 shl-result-2 : tie.Need-shl-result-2
 shl-result-2 c = search needs
+
+normalized-offset-requires : tie.Need-normalized-offset-requires
+normalized-offset-requires c κs = let s = c .before .before .before .before .before .before .before .before .before in step-low _ (ranges (s .args .p) (s .pre) .step)
 
 cast-result-6 : tie.Need-cast-result-6
 cast-result-6 c = search needs
@@ -62,14 +69,14 @@ shl-result-3 c = search needs
 
 returns : tie.Need-returns
 returns c =
-    let b = c .before .before .before .before .before .before .before in
-    code-is (b .args .p) (ranges (b .args .p) (b .pre)) _ _ _ _ (c .before .before .before .encode .ensures) (c .before .encode2 .ensures) (c .encode3 .ensures) (c .before .before .before .before .normalized-offset .ensures)
+    let b = c .before .before .before .before .before .before .before .before .before .before in
+    code-is (b .args .p) (ranges (b .args .p) (b .pre)) _ _ _ _ (c .before .before .before .before .encode .ensures) (c .before .before .encode2 .ensures) (c .before .encode3 .ensures) (c .normalized-offset .ensures)
 
 pub encode-spec : {M : Type 1} → statement M
 encode-spec =
     tie.close
     (tie.spec
-    normalized-offset-requires
+    foundation-mask-requires
     encode-requires
     cast-result
     encode-requires-2
@@ -80,6 +87,7 @@ encode-spec =
     cast-result-4
     cast-result-5
     shl-result-2
+    normalized-offset-requires
     cast-result-6
     cast-result-7
     shl-result-3
