@@ -46,8 +46,7 @@ loop-again : tie.Need-loop-again Inv-loop μ-loop
 loop-again c =
     let a = c .before .before .before .args in
     let j : ℕ = c .before .loop .j in
-    let long = draw-length (a .t1) (a .left) (a .place) (omega arith) (omega arith) (omega arith) in
-    (
+    let long = draw-length (a .t1) (a .left) (a .place) (omega arith) (omega arith) (omega arith) in (
       omega arith,
       omega arith,
       rw (c .before .loop .inv .2)

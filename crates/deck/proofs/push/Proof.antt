@@ -12,10 +12,10 @@ use Rattle.deck.proofs.push.Statement.{statement}
 use Rattle.deck.proofs.push.Tie as tie
 
 abbrev Inv-loop : tie.InvT-loop
-Inv-loop left place card deck end out₀ j₀ out j = (place ≤ j) × (j ≤ end) × (out ≡ filled (pushAt deck left place card) (j + 1))
+Inv-loop left place card deck last out₀ j₀ out j = (place ≤ j) × (j ≤ last) × (out ≡ filled (pushAt deck left place card) (j + 1))
 
 abbrev μ-loop : tie.MeasureT-loop
-μ-loop left place card deck end out₀ j₀ out j = end - j
+μ-loop left place card deck last out₀ j₀ out j = last - j
 
 cards-requires : tie.Need-cards-requires Inv-loop μ-loop
 cards-requires c κs = search needs
@@ -27,8 +27,7 @@ loop-holds : tie.Need-loop-holds Inv-loop μ-loop
 loop-holds c =
     let a = c .before .args in
     let xs = pushAt (a .t1) (a .left) (a .place) (a .card) in
-    let long = push-length (a .t1) (a .left) (a .place) (a .card) (omega arith) (omega arith) in
-    (
+    let long = push-length (a .t1) (a .left) (a .place) (a .card) (omega arith) (omega arith) in (
       omega arith,
       omega arith,
       ap (λ (r : List ℕ). set r (a .place) (a .card)) (c .cards .ensures ∙ fill-front (a .t1) (a .card ∷ drop (a .place) (take (a .left) (a .t1))) (a .place) (omega arith) (omega arith))
@@ -56,8 +55,7 @@ loop-again c =
     let j : ℕ = c .before .loop .j in
     let xs = pushAt (a .t1) (a .left) (a .place) (a .card) in
     let long = push-length (a .t1) (a .left) (a .place) (a .card) (omega arith) (omega arith) in
-    let back : j + 1 - 1 ≡ j = omega arith in
-    (
+    let back : j + 1 - 1 ≡ j = omega arith in (
       omega arith,
       omega arith,
       rw (c .before .loop .inv .2)
