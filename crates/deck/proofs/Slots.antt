@@ -37,6 +37,13 @@ fill-end xs j e l =
     ap (λ (l : List ℕ). l ++ replicate (24 - j) 0) all
     ∙ sym (ap (λ (r : List ℕ). take 24 (xs ++ r)) rest ∙ ap (take 24) (sym (append-assoc xs (replicate (24 - j) 0) (replicate j 0))) ∙ take-at (xs ++ replicate (24 - j) 0) (replicate j 0) 24 long)
 
+-- the first k cards of d alone, where xs begins with them
+pub fill-front : (d ys : List ℕ) (k : ℕ) → k ≤ length d → k ≤ 24 → slots (take k d) ≡ filled (take k d ++ ys) k
+unfolding filled
+fill-front d ys k l m =
+    let long : length (take k d) ≡ k = length-take-le k d l in
+    sym (fill-end (take k d) k long m) ∙ ap (λ (xs : List ℕ). xs ++ replicate (24 - k) 0) (take-all k (take k d) (omega arith) ∙ sym (take-at (take k d) ys k long))
+
 -- ---- a card out at place k of the first n
 
 module _ (d : List ℕ) (n k : ℕ) (h : k < n) (m : n ≤ 24) (l : n ≤ length d) where

@@ -1,4 +1,4 @@
-// Going back over a move: a function for each kind, and the test that there is a way back.
+// Going back over a move, and the test that there is a way back.
 ghost use mathlib.Core.Path.{_≡_};
 ghost use lib.Dec.{T};
 ghost use Rattle.rules.specs.Proper.{proper};
@@ -7,12 +7,10 @@ ghost use Rattle.play.specs.Made.{hasWay};
 use crate::N_DECK_CARDS;
 use crate::N_PILES;
 use crate::parts::bare_pile;
-use crate::parts::hide;
-use crate::parts::lower;
-use crate::parts::put_back;
-use crate::parts::raise;
-use crate::parts::show;
-use crate::parts::turn_back;
+use crate::parts::one_less;
+use crate::parts::seen;
+use crate::parts::unseen;
+use card::Card;
 use rules::Position;
 
 // There is a place for the card to go back to. Whoever asks for an undo may have written the entry, so nothing in it is trusted.
@@ -34,56 +32,50 @@ pub fn has_way(p: Position, byte: u8, kind: u8, card: u8) -> bool
     }
 }
 
-fn unmake_deck_stack(p: Position, byte: u8, card: u8) -> Position
-    requires { ⌜ T (proper p) × T (hasWay p byte 0 card) ⌝ }
-    ensures { λ r. ⌜ r ≡ before p byte 0 card ⌝ }
-{
-    put_back(lower(p, card), card, byte)
-}
-
-// A byte that is not 0 says that the card was a head.
-fn unmake_pile_stack(p: Position, byte: u8, card: u8) -> Position
-    requires { ⌜ T (proper p) × T (hasWay p byte 1 card) ⌝ }
-    ensures { λ r. ⌜ r ≡ before p byte 1 card ⌝ }
-{
-    let down = show(lower(p, card), card);
-    if byte == 0 {
-        return down;
-    }
-    turn_back(down, bare_pile(p, card))
-}
-
-fn unmake_deck_pile(p: Position, byte: u8, card: u8) -> Position
-    requires { ⌜ T (proper p) × T (hasWay p byte 2 card) ⌝ }
-    ensures { λ r. ⌜ r ≡ before p byte 2 card ⌝ }
-{
-    put_back(hide(p, card), card, byte)
-}
-
-fn unmake_stack_pile(p: Position, byte: u8, card: u8) -> Position
-    requires { ⌜ T (proper p) ⌝ }
-    ensures { λ r. ⌜ r ≡ before p byte 3 card ⌝ }
-{
-    raise(hide(p, card), card)
-}
-
-fn unmake_reveal(p: Position, byte: u8, card: u8) -> Position
-    requires { ⌜ T (proper p) × T (hasWay p byte 4 card) ⌝ }
-    ensures { λ r. ⌜ r ≡ before p byte 4 card ⌝ }
-{
-    turn_back(p, bare_pile(p, card))
-}
-
 // Goes back over a move that wrote this byte, if there is a way. What comes out may be no proper position.
-pub fn undo_move(p: Position, byte: u8, kind: u8, card: u8) -> Position
+// A byte that is not 0 says of a card that went up from a pile that it was a head.
+pub fn undo_move(mut p: Position, byte: u8, kind: u8, card: u8) -> Position
     requires { ⌜ T (proper p) × T (hasWay p byte kind card) ⌝ }
     ensures { λ r. ⌜ r ≡ before p byte kind card ⌝ }
 {
+    let suit = Card(card).suit() as usize;
+    let mut pile = N_PILES;
     match kind {
-        moves::DECK_STACK => unmake_deck_stack(p, byte, card),
-        moves::PILE_STACK => unmake_pile_stack(p, byte, card),
-        moves::DECK_PILE => unmake_deck_pile(p, byte, card),
-        moves::STACK_PILE => unmake_stack_pile(p, byte, card),
-        _ => unmake_reveal(p, byte, card),
+        moves::DECK_STACK | moves::DECK_PILE => {
+            let cards = p.deck;
+            let left = p.left;
+            let more = deck::push(cards, left, p.offset, card);
+            p.deck = more;
+            p.left = left + 1;
+            p.offset = byte;
+            if kind == moves::DECK_STACK {
+                p.heights[suit] = one_less(p.heights[suit]);
+            } else {
+                p.visible = unseen(p.visible, card);
+            }
+        }
+        moves::STACK_PILE => {
+            p.heights[suit] = p.heights[suit] + 1;
+            p.visible = unseen(p.visible, card);
+        }
+        moves::PILE_STACK => {
+            p.heights[suit] = one_less(p.heights[suit]);
+            p.visible = seen(p.visible, card);
+            if byte != 0 {
+                pile = bare_pile(p, card);
+            }
+        }
+        _ => {
+            pile = bare_pile(p, card);
+        }
     }
+    if pile < N_PILES {
+        let n = p.counts[pile];
+        p.counts[pile] = n + 1;
+        if n > 0 {
+            let at = card::pile_start(pile) as usize + n as usize - 1;
+            p.visible = unseen(p.visible, p.deal[at]);
+        }
+    }
+    p
 }

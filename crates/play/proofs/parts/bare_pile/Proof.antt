@@ -1,12 +1,11 @@
 -- `play::parts::bare_pile` meets its contract.
 -- Assumes nothing.
 use borrow.Author.Needs.{needs}
-use Rattle.play.proofs.Known.{counts-fit}
 use Rattle.play.proofs.parts.bare_pile.Statement.{statement}
 use Rattle.play.proofs.parts.bare_pile.Tie as tie
 
 find-bare-requires : tie.Need-find-bare-requires
-find-bare-requires c κs = counts-fit (c .before .before .before .before .args .p) (c .before .before .before .before .pre)
+find-bare-requires c κs = search needs
 
 returns : tie.Need-returns
 returns c = search needs

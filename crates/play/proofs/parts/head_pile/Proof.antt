@@ -1,12 +1,11 @@
 -- `play::parts::head_pile` meets its contract.
 -- Assumes nothing.
 use borrow.Author.Needs.{needs}
-use Rattle.play.proofs.Known.{counts-fit}
 use Rattle.play.proofs.parts.head_pile.Statement.{statement}
 use Rattle.play.proofs.parts.head_pile.Tie as tie
 
 find-head-requires : tie.Need-find-head-requires
-find-head-requires c κs = counts-fit (c .before .before .before .before .args .p) (c .before .before .before .before .pre)
+find-head-requires c κs = search needs
 
 returns : tie.Need-returns
 returns c = search needs

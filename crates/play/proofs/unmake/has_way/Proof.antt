@@ -4,6 +4,7 @@ use borrow.Author.Needs.{needs}
 use mathlib.Core.Path.{_≡_, refl, sym, ap, _∙_, subst}
 use borrow.Author.Tests.{eq-eqb, ne-eqb}
 use Rattle.play.specs.Made.{leftPile, hasWay}
+use Rattle.play.proofs.Known.{counts-fit}
 use Rattle.play.proofs.LastKind.{none, way-last}
 use Rattle.play.proofs.unmake.has_way.Statement.{statement}
 use Rattle.play.proofs.unmake.has_way.Tie as tie
@@ -13,10 +14,10 @@ unfolding hasWay
 returns c = rw (c .before .match .keys2, eq-eqb (c .before .before .args .byte) 0 (c .if1 .taken))
 
 bare-pile-requires : tie.Need-bare-pile-requires
-bare-pile-requires c κs = search needs
+bare-pile-requires c κs = counts-fit (c .before .before .args .p) (c .before .before .pre)
 
 bare-pile-requires-2 : tie.Need-bare-pile-requires-2
-bare-pile-requires-2 c κs = search needs
+bare-pile-requires-2 c κs = counts-fit (c .before .args .p) (c .before .pre)
 
 returns-2 : tie.Need-returns-2
 unfolding hasWay
