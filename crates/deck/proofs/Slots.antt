@@ -5,7 +5,7 @@ use mathlib.Core.List.{List, [], _∷_, _++_, append-assoc}
 use Prim.Native.Nat.{ℕ, suc, _+_, _-_, _≤_, _<_}
 use native.Mathlib.Numerals.{add-one}
 use native.Mathlib.Omega.{arith}
-use lib.ListN.{length, getD, take, drop, set, replicate, length-append, length-drop, length-replicate, replicate-append-replicate, List·getD-append}
+use lib.ListN.{length, getD, take, drop, set, replicate, length-append, length-drop, length-replicate, replicate-append-replicate}
 use lib.Seq.{length-take-le, take-all, take-suc, take-at, drop-at, set-at, split-at, getD-take, getD-drop, getD-append-add, take-take}
 use Rattle.rules.specs.Play.{slots, drawAt, pushAt}
 use Rattle.rules.proofs.SlotsLaw.{slots-front}
@@ -53,9 +53,6 @@ module _ (d : List ℕ) (n k : ℕ) (h : k < n) (m : n ≤ 24) (l : n ≤ length
   pub draw-length : length (drawAt d n k) ≡ n - 1
   draw-length = length-append (take k d) (drop (k + 1) (take n d)) ∙ omega (arith, front-length, length-drop (k + 1) (take n d), length-take-le n d l)
 
-  pub draw-before : (j : ℕ) → j < k → getD d j 0 ≡ getD (drawAt d n k) j 0
-  draw-before j i = sym (List·getD-append (take k d) (drop (k + 1) (take n d)) 0 j (omega (arith, front-length)) ∙ getD-take k d j 0 i)
-
   pub draw-after : (j : ℕ) → k ≤ j → j < n - 1 → getD d (j + 1) 0 ≡ getD (drawAt d n k) j 0
   draw-after j i m =
       let at : j ≡ length (take k d) + (j - k) = omega (arith, front-length) in
@@ -90,9 +87,6 @@ module _ (d : List ℕ) (n k c : ℕ) (h : k ≤ n) (l : n ≤ length d) where
 
   pub push-length : length (pushAt d n k c) ≡ n + 1
   push-length = length-append (take k d) (c ∷ drop k (take n d)) ∙ omega (arith, before-length, length-drop k (take n d), length-take-le n d l)
-
-  pub push-before : (j : ℕ) → j < k → getD d j 0 ≡ getD (pushAt d n k c) j 0
-  push-before j i = sym (List·getD-append (take k d) (c ∷ drop k (take n d)) 0 j (omega (arith, before-length)) ∙ getD-take k d j 0 i)
 
   -- the place k + j, which is the card's or one after it
   from-place : (j i : ℕ) → k + j ≡ i → getD (c ∷ drop k (take n d)) j 0 ≡ getD (pushAt d n k c) i 0

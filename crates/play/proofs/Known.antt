@@ -4,12 +4,13 @@ use mathlib.Core.Bool.{Bool, true, false, _&&_, _||_}
 use mathlib.Core.Path.{_≡_, refl, sym, ap, _∙_, subst}
 use Prim.Native.Nat.{ℕ, _≤_, _<_}
 use native.Mathlib.Omega.{arith}
-use lib.Dec.{T, ltb}
+use lib.Dec.{T}
+use lib.ListN.{getD}
 use borrow.Author.Tests.{ltb-true, ne-eqb}
 use Rattle.bits.proofs.Tables.{T-true, true-T}
 use Rattle.rules.specs.declared.Position.{Position}
-use Rattle.rules.specs.Cards.{suit, isKing}
-use Rattle.rules.specs.Places.{count, height, isHead, isBase, inDeck, pileOf}
+use Rattle.rules.specs.Cards.{suit}
+use Rattle.rules.specs.Places.{count, height, isHead, inDeck, pileOf}
 use Rattle.rules.specs.Hidden.{CountsFit, headPile, barePile}
 use Rattle.rules.specs.Proper.{proper}
 use Rattle.rules.specs.Dealing.{available}
@@ -22,13 +23,22 @@ use Rattle.laws.proofs.Deck.{available-in}
 use Rattle.laws.proofs.Piles.{head-pile}
 use Rattle.play.specs.Made.{leftPile, hasWay}
 
+pub suit-fits : (s c : ℕ) → s ≡ suit c → s < 4
+suit-fits s c e = subst (λ (x : ℕ). x < 4) (sym e) (suit-low c)
+
 module _ (p : Position) (t : T (proper p)) where
   pub counts-fit : CountsFit (p .counts)
   unfolding count
   counts-fit = facts p t .counts
 
-  pub low-height : (c : ℕ) → height p (suit c) < 255
-  low-height c = omega (arith, facts p t .heights (suit c) (suit-low c))
+  -- of a position with the same counts
+  pub same-fit : (q : Position) → q .counts ≡ p .counts → CountsFit (q .counts)
+  same-fit q e = subst CountsFit (sym e) counts-fit
+
+  -- the foundation of c's suit s
+  pub low-height : (s c : ℕ) → s ≡ suit c → getD (p .heights) s 0 < 255
+  unfolding height
+  low-height s c e = omega (arith, facts p t .heights s (suit-fits s c e))
 
   -- ---- a head's pile
 

@@ -1,21 +1,17 @@
 -- What a move writes into the position, field by field, is what the rules say of its kind.
 -- Assumes nothing.
-use mathlib.Core.Bool.{Bool, true, cond}
-use mathlib.Core.Path.{_≡_, refl, sym, ap, _∙_}
+use mathlib.Core.Path.{_≡_, refl}
 use mathlib.Core.List.{List}
 use Prim.Native.Nat.{ℕ, _+_, _-_, _≤_, _<_}
-use native.Mathlib.Omega.{arith}
-use lib.Dec.{ltb}
 use lib.ListN.{getD, set}
 use borrow.Author.Tests.{lt-ltb, le-ltb}
 use Rattle.rules.specs.declared.Position.{Position}
 use Rattle.rules.specs.declared.TurnedUp.the-variants.{Emptied, Card}
 use Rattle.rules.specs.Bits.{with, without}
 use Rattle.rules.specs.Cards.{suit}
-use Rattle.rules.specs.Places.{count, pileCard, cardAt, deckCard}
+use Rattle.rules.specs.Places.{count, pileCard}
 use Rattle.rules.specs.Foundations.{raisedOn, loweredOn}
 use Rattle.rules.specs.Play.{slots, drawAt, pushAt, deckPlace, raised, lowered, shown, hidden, drawn, putBack, turned, turnedBack, under, withVisible, withHeights, withCounts, withDeck}
-use Rattle.play.specs.declared.Made.{Made}
 use Rattle.play.specs.Made.{turnedAt}
 
 -- the position with these fields

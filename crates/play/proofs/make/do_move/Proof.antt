@@ -2,8 +2,7 @@
 -- Assumes nothing.
 use borrow.Author.Needs.{needs}
 use mathlib.Core.Logic.{⊎-elim}
-use mathlib.Core.Path.{_≡_, refl, sym, ap, _∙_, subst}
-use mathlib.Core.List.{List}
+use mathlib.Core.Path.{_≡_, sym, ap, _∙_, subst}
 use Prim.Native.Nat.{ℕ, _+_, _-_, _≤_, _<_}
 use native.Mathlib.Omega.{arith}
 use lib.Dec.{T, ltb}
@@ -11,14 +10,13 @@ use lib.ListN.{getD}
 use mir.Val.{boolByte}
 use Rattle.bits.proofs.Tables.{T-true}
 use Rattle.rules.specs.Legal.{legal}
-use Rattle.rules.specs.Places.{height, inDeck, pileStart, pileCard, cardAt, deckCard}
+use Rattle.rules.specs.Places.{inDeck, pileStart, pileCard, cardAt, deckCard}
 use Rattle.rules.specs.Play.{deckPlace}
 use Rattle.rules.proofs.Facts.{facts}
 use Rattle.rules.proofs.Shape.{shape}
-use Rattle.rules.proofs.Suits.{suit-low}
 use Rattle.laws.proofs.Deck.{place-low}
 use Rattle.hidden.proofs.Collected.{in-deal}
-use Rattle.play.proofs.Known.{counts-fit, low-height, deck-stack-in, deck-pile-in}
+use Rattle.play.proofs.Known.{counts-fit, same-fit, suit-fits, low-height, deck-stack-in, deck-pile-in}
 use Rattle.play.proofs.LastKind.{rest}
 use Rattle.play.proofs.Written.{drawn-up, drawn-shown, down-shown, up-hidden, turned-card, turned-emptied}
 use Rattle.play.proofs.Halfway.{Making, from-deck-up, from-deck, from-stack, from-pile-up, to-pile}
@@ -27,14 +25,11 @@ use Rattle.play.proofs.make.do_move.Tie as tie
 
 -- ---- the card's suit and its place in the deck
 
-suit-fits : (c : tie.After-suit) → c .suit .result < 4
-suit-fits c = subst (λ (s : ℕ). s < 4) (sym (c .suit .ensures)) (suit-low (c .before .args .card))
+suit-low : (c : tie.After-suit) → c .suit .result < 4
+suit-low c = suit-fits (c .suit .result) (c .before .args .card) (c .suit .ensures)
 
 roomy : (c : tie.After-suit) → getD (c .before .args .t1 .heights) (c .suit .result) 0 < 255
-unfolding height
-roomy c =
-    let a = c .before .args in
-    subst (λ (s : ℕ). getD (a .t1 .heights) s 0 < 255) (sym (c .suit .ensures)) (low-height (a .t1) (c .before .pre .0) (a .card))
+roomy c = low-height (c .before .args .t1) (c .before .pre .0) (c .suit .result) (c .before .args .card) (c .suit .ensures)
 
 in-deck : (c : tie.At-match-keys1) → T (inDeck (c .before .before .args .t1) (c .before .before .args .card))
 in-deck c =
@@ -81,9 +76,8 @@ mid c =
 -- the count of the pile that is turned
 fits : (c : tie.Then2) → getD (c .before .match .p .counts) (c .before .match .pile) 0 ≤ c .before .match .pile + 1
 fits c =
-    let m = c .before .match in
     let b = c .before .before .before in
-    subst (λ (n : List ℕ). getD n (m .pile) 0 ≤ m .pile + 1) (sym (mid (c .before) .counts)) (counts-fit (b .args .t1) (b .pre .0) (m .pile) (c .if2 .taken))
+    same-fit (b .args .t1) (b .pre .0) (c .before .match .p) (mid (c .before) .counts) (c .before .match .pile) (c .if2 .taken)
 
 place : (c : tie.After-pile-start) → c .pile-start .result + getD (c .before .before .before .before .before .match .p .counts) (c .before .before .before .before .before .match .pile) 0 ≤ 52
 place c =
@@ -108,37 +102,37 @@ sub-p : tie.Need-sub-p
 sub-p c = omega (arith, low (c .before))
 
 element-copy-out-p : tie.Need-element-copy-out-p
-element-copy-out-p c = suit-fits (c .before .before .before .before .before)
+element-copy-out-p c = suit-low (c .before .before .before .before .before)
 
 add-p : tie.Need-add-p
 add-p c = omega (arith, roomy (c .before .before .before .before .before .before))
 
 element-write-p : tie.Need-element-write-p
-element-write-p c = suit-fits (c .before .before .before .before .before .before)
+element-write-p c = suit-low (c .before .before .before .before .before .before)
 
 seen-requires : tie.Need-seen-requires
 seen-requires c κs = search needs
 
 element-copy-out-one-less : tie.Need-element-copy-out-one-less
-element-copy-out-one-less c = suit-fits (c .before)
+element-copy-out-one-less c = suit-low (c .before)
 
 one-less-requires : tie.Need-one-less-requires
 one-less-requires c κs = search needs
 
 element-write-p-2 : tie.Need-element-write-p-2
-element-write-p-2 c = suit-fits (c .before .before .before)
+element-write-p-2 c = suit-low (c .before .before .before)
 
 seen-requires-2 : tie.Need-seen-requires-2
 seen-requires-2 c κs = search needs
 
 element-copy-out-p-2 : tie.Need-element-copy-out-p-2
-element-copy-out-p-2 c = suit-fits (c .before)
+element-copy-out-p-2 c = suit-low (c .before)
 
 add-p-2 : tie.Need-add-p-2
 add-p-2 c = omega (arith, roomy (c .before .before))
 
 element-write-p-3 : tie.Need-element-write-p-3
-element-write-p-3 c = suit-fits (c .before .before)
+element-write-p-3 c = suit-low (c .before .before)
 
 unseen-requires : tie.Need-unseen-requires
 unseen-requires c κs = search needs

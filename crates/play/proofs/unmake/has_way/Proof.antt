@@ -1,7 +1,6 @@
 -- `play::unmake::has_way` meets its contract.
 -- Assumes nothing.
-use borrow.Author.Needs.{needs}
-use mathlib.Core.Path.{_≡_, refl, sym, ap, _∙_, subst}
+use mathlib.Core.Path.{sym}
 use borrow.Author.Tests.{eq-eqb, ne-eqb}
 use Rattle.play.specs.Made.{leftPile, hasWay}
 use Rattle.play.proofs.Known.{counts-fit}

@@ -3,17 +3,15 @@
 use borrow.Author.Needs.{needs}
 use mathlib.Core.Logic.{⊎-elim}
 use mathlib.Core.Path.{_≡_, refl, sym, ap, _∙_, subst}
-use mathlib.Core.List.{List}
 use Prim.Native.Nat.{ℕ, _+_, _-_, _≤_, _<_}
 use native.Mathlib.Omega.{arith}
 use lib.Dec.{T}
 use lib.ListN.{getD}
-use Rattle.rules.specs.Places.{height, pileStart, pileCard, cardAt}
+use Rattle.rules.specs.Places.{pileStart, pileCard, cardAt}
 use Rattle.rules.proofs.Facts.{facts}
-use Rattle.rules.proofs.Suits.{suit-low}
 use Rattle.hidden.proofs.Collected.{in-deal}
 use Rattle.play.specs.Made.{hasWay}
-use Rattle.play.proofs.Known.{counts-fit, low-height, deck-stack-way, deck-pile-way}
+use Rattle.play.proofs.Known.{counts-fit, same-fit, suit-fits, low-height, deck-stack-way, deck-pile-way}
 use Rattle.play.proofs.LastKind.{rest}
 use Rattle.play.proofs.Written.{down-back, hidden-back, hidden-up, down-shown, back-card, back-emptied}
 use Rattle.play.proofs.Halfway.{Going, to-deck-down, to-deck, to-stack, head-down, card-down, head-back}
@@ -22,14 +20,11 @@ use Rattle.play.proofs.unmake.undo_move.Tie as tie
 
 -- ---- the card's suit, and room in the deck
 
-suit-fits : (c : tie.After-suit) → c .suit .result < 4
-suit-fits c = subst (λ (s : ℕ). s < 4) (sym (c .suit .ensures)) (suit-low (c .before .args .card))
+suit-low : (c : tie.After-suit) → c .suit .result < 4
+suit-low c = suit-fits (c .suit .result) (c .before .args .card) (c .suit .ensures)
 
 roomy : (c : tie.After-suit) → getD (c .before .args .t1 .heights) (c .suit .result) 0 < 255
-unfolding height
-roomy c =
-    let a = c .before .args in
-    subst (λ (s : ℕ). getD (a .t1 .heights) s 0 < 255) (sym (c .suit .ensures)) (low-height (a .t1) (c .before .pre .0) (a .card))
+roomy c = low-height (c .before .args .t1) (c .before .pre .0) (c .suit .result) (c .before .args .card) (c .suit .ensures)
 
 room : (c : tie.At-match-keys1) → c .before .before .args .t1 .left < 24
 room c =
@@ -70,9 +65,8 @@ mid c =
 -- the count of the pile that is turned back
 fits : (c : tie.Then3) → getD (c .before .match .p .counts) (c .before .match .pile) 0 ≤ c .before .match .pile + 1
 fits c =
-    let m = c .before .match in
     let b = c .before .before .before in
-    subst (λ (n : List ℕ). getD n (m .pile) 0 ≤ m .pile + 1) (sym (mid (c .before) .counts)) (counts-fit (b .args .t1) (b .pre .0) (m .pile) (c .if3 .taken))
+    same-fit (b .args .t1) (b .pre .0) (c .before .match .p) (mid (c .before) .counts) (c .before .match .pile) (c .if3 .taken)
 
 place : (c : tie.After-pile-start) → c .pile-start .result + getD (c .before .before .before .before .match .p .counts) (c .before .before .before .before .match .pile) 0 ≤ 52
 place c =
@@ -94,37 +88,37 @@ add-p : tie.Need-add-p
 add-p c = omega (arith, room (c .before .before))
 
 element-copy-out-one-less : tie.Need-element-copy-out-one-less
-element-copy-out-one-less c = suit-fits (c .before .before .before .before)
+element-copy-out-one-less c = suit-low (c .before .before .before .before)
 
 one-less-requires : tie.Need-one-less-requires
 one-less-requires c κs = search needs
 
 element-write-p : tie.Need-element-write-p
-element-write-p c = suit-fits (c .before .before .before .before .before .before)
+element-write-p c = suit-low (c .before .before .before .before .before .before)
 
 unseen-requires : tie.Need-unseen-requires
 unseen-requires c κs = search needs
 
 element-copy-out-p : tie.Need-element-copy-out-p
-element-copy-out-p c = suit-fits (c .before)
+element-copy-out-p c = suit-low (c .before)
 
 add-p-2 : tie.Need-add-p-2
 add-p-2 c = omega (arith, roomy (c .before .before))
 
 element-write-p-2 : tie.Need-element-write-p-2
-element-write-p-2 c = suit-fits (c .before .before)
+element-write-p-2 c = suit-low (c .before .before)
 
 unseen-requires-2 : tie.Need-unseen-requires-2
 unseen-requires-2 c κs = search needs
 
 element-copy-out-one-less-2 : tie.Need-element-copy-out-one-less-2
-element-copy-out-one-less-2 c = suit-fits (c .before)
+element-copy-out-one-less-2 c = suit-low (c .before)
 
 one-less-requires-2 : tie.Need-one-less-requires-2
 one-less-requires-2 c κs = search needs
 
 element-write-p-3 : tie.Need-element-write-p-3
-element-write-p-3 c = suit-fits (c .before .before .before)
+element-write-p-3 c = suit-low (c .before .before .before)
 
 seen-requires : tie.Need-seen-requires
 seen-requires c κs = search needs
