@@ -1,4 +1,4 @@
-// The public calls. Each judges its own input, requires nothing, and refuses by document 01's numbers, in its order.
+// The public calls. Each judges its own input, asks nothing of its caller, and refuses by document 01's numbers, in its order.
 // A refused call hands back the position it was given and leaves lent memory as it was.
 ghost use mathlib.Core.Path.{_≡_};
 ghost use mathlib.Core.Bool.{false};

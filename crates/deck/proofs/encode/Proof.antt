@@ -2,7 +2,7 @@
 -- Assumes nothing.
 use borrow.Author.Needs.{needs}
 use mathlib.Core.Bool.{Bool, not, _||_}
-use mathlib.Core.Path.{_≡_, refl, sym, ap, _∙_}
+use mathlib.Core.Path.{_≡_, ap, _∙_}
 use Prim.Native.Nat.{ℕ, suc, _+_, _-_, _*_, _/_, _%_, _^_, _≤_, _<_}
 use native.Mathlib.Omega.{arith}
 use lib.Bits.{bitAnd, bitOr, and-le-r}
@@ -11,7 +11,7 @@ use Rattle.bits.proofs.Laws.{bit-mask, bit-not, has-shr, mask-ext, mask-lt}
 use Rattle.rules.specs.Bits.{num, bit, maskOf}
 use Rattle.rules.specs.Places.{cardAt, stockCard, isVisible, onFoundation}
 use Rattle.rules.specs.Code.{deckField}
-use Rattle.rules.proofs.Facts.{Facts, facts}
+use Rattle.rules.proofs.Facts.{facts}
 use Rattle.deck.proofs.Fields.{no-places, put-first, still-there}
 use Rattle.deck.proofs.encode.Statement.{statement}
 use Rattle.deck.proofs.encode.Tie as tie
