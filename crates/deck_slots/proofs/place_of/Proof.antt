@@ -1,4 +1,4 @@
--- `deck::place_of` meets its contract.
+-- `deck_slots::place_of` meets its contract.
 -- Assumes nothing.
 use mathlib.Core.Bool.{true}
 use mathlib.Core.Path.{_≡_, sym, _∙_}
@@ -10,8 +10,8 @@ use borrow.Author.Count.{below-more}
 use borrow.Author.Tests.{eqb-true, eq-eqb}
 use Rattle.rules.proofs.Steps.{first-at, first-none}
 use borrow.Author.Needs.{needs}
-use Rattle.deck.proofs.place_of.Statement.{statement}
-use Rattle.deck.proofs.place_of.Tie as tie
+use Rattle.deck_slots.proofs.place_of.Statement.{statement}
+use Rattle.deck_slots.proofs.place_of.Tie as tie
 
 abbrev Inv-loop : tie.InvT-loop
 Inv-loop left card deck at₀ at = (at ≤ left) × ((k : ℕ) → k < at → eqb (getD deck k 0) card ≡ true → ⊥)

@@ -1,4 +1,4 @@
--- `deck::push` meets its contract: the slots are filled from the front.
+-- `deck_slots::push` meets its contract: the slots are filled from the front.
 -- Assumes nothing.
 use mathlib.Core.Path.{_≡_, refl, ap, _∙_}
 use mathlib.Core.List.{List, _∷_}
@@ -6,10 +6,10 @@ use Prim.Native.Nat.{ℕ, _+_, _-_, _≤_}
 use native.Mathlib.Omega.{arith}
 use lib.ListN.{getD, take, drop, set}
 use Rattle.rules.specs.Play.{pushAt}
-use Rattle.deck.proofs.Slots.{filled, fill-front, fill-turn, fill-end, push-length, push-at, push-after}
+use Rattle.deck_slots.proofs.Slots.{filled, fill-front, fill-turn, fill-end, push-length, push-at, push-after}
 use borrow.Author.Needs.{needs}
-use Rattle.deck.proofs.push.Statement.{statement}
-use Rattle.deck.proofs.push.Tie as tie
+use Rattle.deck_slots.proofs.push.Statement.{statement}
+use Rattle.deck_slots.proofs.push.Tie as tie
 
 abbrev Inv-loop : tie.InvT-loop
 Inv-loop left place card deck last out₀ j₀ out j = (place ≤ j) × (j ≤ last) × (out ≡ filled (pushAt deck left place card) (j + 1))

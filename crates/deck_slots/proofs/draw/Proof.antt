@@ -1,14 +1,14 @@
--- `deck::draw` meets its contract: the slots are filled from the front.
+-- `deck_slots::draw` meets its contract: the slots are filled from the front.
 -- Assumes nothing.
 use mathlib.Core.Path.{_≡_, _∙_}
 use Prim.Native.Nat.{ℕ, _+_, _-_, _≤_}
 use native.Mathlib.Omega.{arith}
 use lib.ListN.{getD, take, drop}
 use Rattle.rules.specs.Play.{drawAt}
-use Rattle.deck.proofs.Slots.{filled, fill-front, fill-turn, fill-end, draw-length, draw-after}
+use Rattle.deck_slots.proofs.Slots.{filled, fill-front, fill-turn, fill-end, draw-length, draw-after}
 use borrow.Author.Needs.{needs}
-use Rattle.deck.proofs.draw.Statement.{statement}
-use Rattle.deck.proofs.draw.Tie as tie
+use Rattle.deck_slots.proofs.draw.Statement.{statement}
+use Rattle.deck_slots.proofs.draw.Tie as tie
 
 abbrev Inv-loop : tie.InvT-loop
 Inv-loop left place deck end rest₀ j₀ rest j = (place ≤ j) × (j ≤ end) × (rest ≡ filled (drawAt deck left place) j)

@@ -1,14 +1,14 @@
--- `deck::cards` meets its contract: the slots are filled from the front.
+-- `deck_slots::cards` meets its contract: the slots are filled from the front.
 -- Assumes nothing.
 use mathlib.Core.Path.{_≡_, sym, _∙_}
 use Prim.Native.Nat.{ℕ, _-_, _≤_}
 use native.Mathlib.Omega.{arith}
 use lib.ListN.{getD, take, length, length-take}
 use lib.Seq.{getD-take}
-use Rattle.deck.proofs.Slots.{filled, fill-start, fill-turn, fill-end}
+use Rattle.deck_slots.proofs.Slots.{filled, fill-start, fill-turn, fill-end}
 use borrow.Author.Needs.{needs}
-use Rattle.deck.proofs.cards.Statement.{statement}
-use Rattle.deck.proofs.cards.Tie as tie
+use Rattle.deck_slots.proofs.cards.Statement.{statement}
+use Rattle.deck_slots.proofs.cards.Tie as tie
 
 abbrev Inv-loop : tie.InvT-loop
 Inv-loop left deck end out₀ j₀ out j = (j ≤ end) × (out ≡ filled (take left deck) j)

@@ -1,9 +1,9 @@
--- `deck::is_pure` meets its contract.
+-- `deck_cursor::is_pure` meets its contract.
 -- Assumes nothing.
 use borrow.Author.Tests.{eq-eqb, ne-eqb}
 use borrow.Author.Needs.{needs}
-use Rattle.deck.proofs.is_pure.Statement.{statement}
-use Rattle.deck.proofs.is_pure.Tie as tie
+use Rattle.deck_cursor.proofs.is_pure.Statement.{statement}
+use Rattle.deck_cursor.proofs.is_pure.Tie as tie
 
 rem-if1 : tie.Need-rem-if1
 rem-if1 c = search needs

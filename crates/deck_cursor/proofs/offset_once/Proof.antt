@@ -1,10 +1,10 @@
--- `deck::offset_once` meets its contract.
+-- `deck_cursor::offset_once` meets its contract.
 -- Assumes nothing.
 use mathlib.Core.Path.{sym, _∙_}
 use Rattle.rules.proofs.DealsLaw.{dealt-end, dealt-on}
 use borrow.Author.Needs.{needs}
-use Rattle.deck.proofs.offset_once.Statement.{statement}
-use Rattle.deck.proofs.offset_once.Tie as tie
+use Rattle.deck_cursor.proofs.offset_once.Statement.{statement}
+use Rattle.deck_cursor.proofs.offset_once.Tie as tie
 
 returns : tie.Need-returns
 returns c = let a = c .before .args in sym (dealt-end (a .len) (a .step) (a .cur) (c .if1 .taken))

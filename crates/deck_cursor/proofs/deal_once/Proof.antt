@@ -1,13 +1,13 @@
--- `deck::deal_once` meets its contract.
+-- `deck_cursor::deal_once` meets its contract.
 -- Assumes nothing.
 use mathlib.Core.Path.{sym, ap₂, _∙_}
 use Prim.Native.Nat.{ℕ}
 use Rattle.rules.specs.declared.Turned.{Turned}
 use Rattle.rules.specs.Dealing.{cursorOf}
-use Rattle.deck.proofs.Cursors.{answer-is, refused-stays, accepted-turns, in-range}
+use Rattle.deck_cursor.proofs.Cursors.{answer-is, refused-stays, accepted-turns, in-range}
 use borrow.Author.Needs.{needs}
-use Rattle.deck.proofs.deal_once.Statement.{statement}
-use Rattle.deck.proofs.deal_once.Tie as tie
+use Rattle.deck_cursor.proofs.deal_once.Statement.{statement}
+use Rattle.deck_cursor.proofs.deal_once.Tie as tie
 
 refusal-requires : tie.Need-refusal-requires
 refusal-requires c κs = search needs

@@ -1,13 +1,13 @@
--- `deck::offset` meets its contract.
+-- `deck_cursor::offset` meets its contract.
 -- Assumes nothing.
 use mathlib.Core.Path.{sym, ap₂, _∙_, subst}
 use Prim.Native.Nat.{ℕ, _+_, _-_, _*_, _%_, _≤_, _<_, min}
 use native.Mathlib.Nat.{lt-of-lt-of-le, div-le-self}
 use native.Mathlib.Omega.{arith}
-use Rattle.deck.proofs.Rounds.{ceil-low, round-low, to-end, past-end}
+use Rattle.deck_cursor.proofs.Rounds.{ceil-low, round-low, to-end, past-end}
 use borrow.Author.Needs.{needs}
-use Rattle.deck.proofs.offset.Statement.{statement}
-use Rattle.deck.proofs.offset.Tie as tie
+use Rattle.deck_cursor.proofs.offset.Statement.{statement}
+use Rattle.deck_cursor.proofs.offset.Tie as tie
 
 sub-div-ceil : tie.Need-sub-div-ceil
 sub-div-ceil c = search needs

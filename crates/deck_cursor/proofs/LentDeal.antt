@@ -42,10 +42,10 @@ use Rattle.rules.proofs.Cursor as T
 use Rattle.rules.proofs.Cursor.Laws as T′
 use Rattle.rules.proofs.Turned as U
 use Rattle.rules.proofs.Turned.Laws as U′
-use Rattle.deck.proofs.Cursors.{refusal-is}
-use Rattle.deck.proofs.deal_once as deal
-use Rattle.deck.proofs.deal_once.Symbol.{name as #deck·deal-once}
-use Rattle.deck.proofs.deal_once_lent as once
+use Rattle.deck_cursor.proofs.Cursors.{refusal-is}
+use Rattle.deck_cursor.proofs.deal_once as deal
+use Rattle.deck_cursor.proofs.deal_once.Symbol.{name as #deck-cursor·deal-once}
+use Rattle.deck_cursor.proofs.deal_once_lent as once
 
 -- its code: `let got = deal_once(*c); *c = got.cursor; got.refusal`
 abbrev pub lent : Fn
@@ -56,7 +56,7 @@ lent = record {
   locals = local (tyInt w8) valueLocal ∷ local (tyRef (named 0) mut (pointee (T.the-row .written))) valueLocal ∷ local U′.mir valueLocal ∷ local T′.mir valueLocal ∷ [];
   body =
       seq (assign (place 3 []) (rvOpd (copy (place 1 (deref T′.mir ∷ [])))))
-      (seq (call #deck·deal-once (copy (place 3 []) ∷ []) (place 2 []))
+      (seq (call #deck-cursor·deal-once (copy (place 3 []) ∷ []) (place 2 []))
       (seq (assign (place 1 (deref T′.mir ∷ [])) (rvOpd (copy (place 2 (field 1 ∷ [])))))
       (seq (assign (place 0 []) (rvOpd (copy (place 2 (field 0 ∷ []))))) return)));
 }
@@ -105,7 +105,7 @@ module _ {M : Type 1} (𝓤 : URA M) (H : Heap 𝓤) (A : Atoms 𝓤) (W : Given
     after : Is T.the-row (r .cursor) (T′.lowered (r .cursor) ∷ [])
     after = LL.owed U.the-type U′.the-laws r _ is .1 .0
 
-  module _ (C : Calls 𝓤 H) (Λ : Loops 𝓤 H) (fm : FmC 𝓤 H (W .laws) C) (known : Triple 𝓤 (C #deck·deal-once) (Deal 𝓤 H A at-mem run)) where
+  module _ (C : Calls 𝓤 H) (Λ : Loops 𝓤 H) (fm : FmC 𝓤 H (W .laws) C) (known : Triple 𝓤 (C #deck-cursor·deal-once) (Deal 𝓤 H A at-mem run)) where
     walk : ent 𝓤 (onEntry 𝓤 H A once.signature (κ, tt) (q, tt) x at) (WpFn 𝓤 H C Λ lent (vptr b o ∷ []) Post)
     walk =
         qed W ((‵ (flft κ q) ⊛ ‵ ftrue) ∷ ‵ (owns (MutRef (named 0) κ (T.the-row) ∷ []) x at) ∷ []) ∵ enter ! C Λ lent (vptr b o ∷ []) _ $
@@ -132,14 +132,14 @@ module _ {M : Type 1} (𝓤 : URA M) (H : Heap 𝓤) (A : Atoms 𝓤) (W : Given
         keep ! (0 ∷ 1 ∷ 2 ∷ 3 ∷ []) $ by ! (exits r (vint w8 (r .refusal)) e)))))))))))
 
 module _ {M : Type 1} (𝓤 : URA M) (H : Heap 𝓤) (A : Atoms 𝓤) (W : Given 𝓤 H A) (at-mem : Memory → SProp 𝓤) (run : Routine → Fun 𝓤) where
-  once-walks : (C : Calls 𝓤 H) (Λ : Loops 𝓤 H) → FmC 𝓤 H (W .laws) C → Triple 𝓤 (C #deck·deal-once) (Deal 𝓤 H A at-mem run)
+  once-walks : (C : Calls 𝓤 H) (Λ : Loops 𝓤 H) → FmC 𝓤 H (W .laws) C → Triple 𝓤 (C #deck-cursor·deal-once) (Deal 𝓤 H A at-mem run)
       → Walks 𝓤 H A once.ended stayed (WpFn 𝓤 H C Λ lent) (once.clauses 𝓤 H A at-mem run)
   once-walks C Λ fm k = walked 𝓤 H A once.ended stayed (once.clauses 𝓤 H A at-mem run) (WpFn 𝓤 H C Λ lent) (λ κs. (ptr-vals, tt)) (λ κs. (mut-tells (named 0) (κs .0) (T.the-row), tt))
       (λ κs qs bounds a _ _. via 𝓤 _ (fst∗ 𝓤 _ (emp 𝓤)) (walk 𝓤 H A W at-mem run (κs .0) (qs .0) (a .0 .ptr .0) (a .0 .ptr .1) (a .0 .name) (a .0 .now) C Λ fm k))
 
--- cited by `deck::deal_once_lent`, and by the same deal for C, whose code and contract are these
+-- cited by `deck_cursor::deal_once_lent`, and by the same deal for C, whose code and contract are these
 pub once-meets : {M : Type 1} (𝓤 : URA M) (H : Heap 𝓤) (A : Atoms 𝓤) → Given 𝓤 H A → (at-mem : Memory → SProp 𝓤) (run : Routine → Fun 𝓤) (𝓣 : Tables 𝓤 H)
-    → Triple 𝓤 (𝓣 .C #deck·deal-once) (Deal 𝓤 H A at-mem run)
+    → Triple 𝓤 (𝓣 .C #deck-cursor·deal-once) (Deal 𝓤 H A at-mem run)
     → Meets 𝓤 H A once.signature (WpFn 𝓤 H (𝓣 .C) (𝓣 .Λ) lent) (once.spec 𝓤 H A at-mem run)
 once-meets 𝓤 H A W at-mem run 𝓣 k = walk-meets 𝓤 H A once.ended stayed W (goes-ref 𝓤 H A W 1 0 tt (plain (λ _. T.the-row)), tt) (once.clauses 𝓤 H A at-mem run) (WpFn 𝓤 H (𝓣 .C) (𝓣 .Λ) lent) (WpFn-mono 𝓤 H (W .laws) 𝓣 lent)
     (once-walks 𝓤 H A W at-mem run (𝓣 .C) (𝓣 .Λ) (fmOf 𝓤 H (W .laws) 𝓣) k)

@@ -1,12 +1,12 @@
--- `deck::refusal` meets its contract.
+-- `deck_cursor::refusal` meets its contract.
 -- Assumes nothing.
 use native.Mathlib.Omega.{arith}
 use Prim.Native.Nat.{_<_}
 use borrow.Author.Tests.{lt-ltb, le-ltb, le-leb, lt-leb}
 use Rattle.rules.specs.Proper.{stepRight}
 use Rattle.rules.specs.Answers.{cursorRefusal}
-use Rattle.deck.proofs.refusal.Statement.{statement}
-use Rattle.deck.proofs.refusal.Tie as tie
+use Rattle.deck_cursor.proofs.refusal.Statement.{statement}
+use Rattle.deck_cursor.proofs.refusal.Tie as tie
 
 returns : tie.Need-returns
 unfolding cursorRefusal stepRight

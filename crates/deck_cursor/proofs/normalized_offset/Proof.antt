@@ -1,11 +1,11 @@
--- `deck::normalized_offset` meets its contract.
+-- `deck_cursor::normalized_offset` meets its contract.
 -- Assumes nothing.
 use mathlib.Core.Bool.{Bool, cond}
 use mathlib.Core.Path.{sym, ap, _∙_}
 use Rattle.rules.specs.Code.{storedOffset}
 use borrow.Author.Needs.{needs}
-use Rattle.deck.proofs.normalized_offset.Statement.{statement}
-use Rattle.deck.proofs.normalized_offset.Tie as tie
+use Rattle.deck_cursor.proofs.normalized_offset.Statement.{statement}
+use Rattle.deck_cursor.proofs.normalized_offset.Tie as tie
 
 is-pure-requires : tie.Need-is-pure-requires
 is-pure-requires c κs = search needs
