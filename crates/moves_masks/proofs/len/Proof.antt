@@ -1,4 +1,4 @@
--- `moves::len` meets its contract.
+-- `moves_masks::len` meets its contract.
 -- Assumes nothing.
 use Prim.Native.Nat.{ℕ, _≤_}
 use native.Mathlib.Omega.{arith}
@@ -7,8 +7,8 @@ use Rattle.bits.specs.Bit.{bit, countOf}
 use Rattle.rules.specs.Pruned.{size}
 use Rattle.rules.specs.Moves.{moveCount}
 use borrow.Author.Needs.{needs}
-use Rattle.moves.proofs.len.Statement.{statement}
-use Rattle.moves.proofs.len.Tie as tie
+use Rattle.moves_masks.proofs.len.Statement.{statement}
+use Rattle.moves_masks.proofs.len.Tie as tie
 
 few : (m : ℕ) → countOf 64 (bit m) ≤ 64
 few m = count-le 64 (bit m)

@@ -1,10 +1,10 @@
--- `moves::filter` meets its contract.
+-- `moves_masks::filter` meets its contract.
 -- Assumes nothing.
 use Rattle.rules.specs.Moves.{maskByMask, filtered}
 use Rattle.rules.proofs.Sets.{minus-is}
-use Rattle.moves.proofs.Sized.{sized, each}
-use Rattle.moves.proofs.filter.Statement.{statement}
-use Rattle.moves.proofs.filter.Tie as tie
+use Rattle.moves_masks.proofs.Sized.{sized, each}
+use Rattle.moves_masks.proofs.filter.Statement.{statement}
+use Rattle.moves_masks.proofs.filter.Tie as tie
 
 returns : tie.Need-returns
 unfolding maskByMask filtered

@@ -1,4 +1,4 @@
--- `moves::of_move` meets its contract.
+-- `moves_masks::of_move` meets its contract.
 -- Assumes nothing.
 use mathlib.Core.Path.{_≡_, refl}
 use Prim.Native.Nat.{ℕ, zero, suc, _≤_}
@@ -8,8 +8,8 @@ use Rattle.rules.specs.declared.Masks.{Masks}
 use Rattle.rules.specs.Bits.{maskOf}
 use Rattle.rules.specs.Moves.{oneMove}
 use borrow.Author.Needs.{needs}
-use Rattle.moves.proofs.of_move.Statement.{statement}
-use Rattle.moves.proofs.of_move.Tie as tie
+use Rattle.moves_masks.proofs.of_move.Statement.{statement}
+use Rattle.moves_masks.proofs.of_move.Tie as tie
 
 -- any kind from 4 on is Reveal
 reveal-is : (kind card : ℕ) → 4 ≤ kind → _≡_ {A = Masks} (record { reveal = maskOf 64 (λ k. eqb k card); «pile_stack» = 0; «deck_pile» = 0; «deck_stack» = 0; «stack_pile» = 0 }) (oneMove kind card)

@@ -1,10 +1,10 @@
--- `moves::combine` meets its contract.
+-- `moves_masks::combine` meets its contract.
 -- Assumes nothing.
 use Rattle.rules.specs.Moves.{maskByMask, combined}
 use Rattle.rules.proofs.Sets.{or-is}
-use Rattle.moves.proofs.Sized.{sized, each}
-use Rattle.moves.proofs.combine.Statement.{statement}
-use Rattle.moves.proofs.combine.Tie as tie
+use Rattle.moves_masks.proofs.Sized.{sized, each}
+use Rattle.moves_masks.proofs.combine.Statement.{statement}
+use Rattle.moves_masks.proofs.combine.Tie as tie
 
 returns : tie.Need-returns
 unfolding maskByMask combined
