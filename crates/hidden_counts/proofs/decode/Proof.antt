@@ -1,4 +1,4 @@
--- `hidden::decode` meets its contract.
+-- `hidden_counts::decode` meets its contract.
 -- Assumes nothing.
 use borrow.Author.Needs.{needs}
 use borrow.Author.Count.{below-more}
@@ -12,8 +12,8 @@ use lib.ListN.{getD, length, length-set}
 use lib.Seq.{getD-set-same, getD-set-other}
 use Rattle.rules.specs.Code.{fieldCount, radices}
 use Rattle.rules.proofs.PileField.{rest-none, rest-more, table-ext, table-of}
-use Rattle.hidden.proofs.decode.Statement.{statement}
-use Rattle.hidden.proofs.decode.Tie as tie
+use Rattle.hidden_counts.proofs.decode.Statement.{statement}
+use Rattle.hidden_counts.proofs.decode.Tie as tie
 
 record Inv (field : ℕ) (counts : List ℕ) (rest i : ℕ) : Type 0 where
   seen : i ≤ 7

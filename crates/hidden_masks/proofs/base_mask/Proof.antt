@@ -1,4 +1,4 @@
--- `hidden::base_mask` meets its contract.
+-- `hidden_masks::base_mask` meets its contract.
 -- Assumes nothing.
 use borrow.Author.Needs.{needs}
 use mathlib.Core.Path.{_≡_, refl, ap}
@@ -8,9 +8,9 @@ use mathlib.Core.Bool.{true}
 use lib.ListN.{getD}
 use Rattle.rules.specs.Bits.{maskOf, anyOf}
 use Rattle.rules.specs.Hidden.{placed, baseIn}
-use Rattle.hidden.proofs.Collected.{picked, picked-step, in-deal}
-use Rattle.hidden.proofs.base_mask.Statement.{statement}
-use Rattle.hidden.proofs.base_mask.Tie as tie
+use Rattle.hidden_masks.proofs.Collected.{picked, picked-step, in-deal}
+use Rattle.hidden_masks.proofs.base_mask.Statement.{statement}
+use Rattle.hidden_masks.proofs.base_mask.Tie as tie
 
 abbrev Inv-loop : tie.InvT-loop
 Inv-loop deal mask₀ i₀ mask i = (i ≤ 7) × (mask ≡ picked (λ j. true) (λ j. placed deal j 0) i)

@@ -1,4 +1,4 @@
--- `hidden::head_mask` meets its contract.
+-- `hidden_masks::head_mask` meets its contract.
 -- Assumes nothing.
 use borrow.Author.Needs.{needs}
 use mathlib.Core.Path.{_≡_, refl, ap}
@@ -10,9 +10,10 @@ use mir.Val.{boolByte}
 use borrow.Author.Tests.{ltb-true}
 use Rattle.rules.specs.Bits.{maskOf, anyOf}
 use Rattle.rules.specs.Hidden.{placed, headIn}
-use Rattle.hidden.proofs.Collected.{picked, picked-step, some-le, last-place}
-use Rattle.hidden.proofs.head_mask.Statement.{statement}
-use Rattle.hidden.proofs.head_mask.Tie as tie
+use Rattle.hidden_counts.proofs.Head.{some-le}
+use Rattle.hidden_masks.proofs.Collected.{picked, picked-step, last-place}
+use Rattle.hidden_masks.proofs.head_mask.Statement.{statement}
+use Rattle.hidden_masks.proofs.head_mask.Tie as tie
 
 abbrev Inv-loop : tie.InvT-loop
 Inv-loop deal counts mask₀ i₀ mask i = (i ≤ 7) × (mask ≡ picked (λ j. ltb 0 (getD counts j 0)) (λ j. placed deal j (getD counts j 0 - 1)) i)

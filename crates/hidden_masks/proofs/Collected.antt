@@ -10,8 +10,8 @@ use lib.Dec.{eqb, ltb, lit≤}
 use lib.ListN.{getD}
 use lib.Bits.{bitAnd, bitOr, and-mask}
 use mir.Val.{boolByte}
-use borrow.Author.Tests.{ltb-true, ltb-false, ne-eqb}
-use Rattle.bits.specs.Bit.{bit, num, maskOf}
+use borrow.Author.Tests.{ne-eqb}
+use Rattle.bits.specs.Bit.{bit, maskOf}
 use Rattle.bits.proofs.Laws.{bit-or, bit-mask, bit-mod, mask-is, mask-lt, mask-ext, mod-64, or-small}
 use Rattle.bits.proofs.Counts.{bit-card}
 use Rattle.bits.proofs.Algebra.{or-masks, mask-cut}
@@ -23,10 +23,7 @@ use Rattle.rules.proofs.Steps.{any-more}
 use Rattle.rules.proofs.ProperMade.{none-any}
 use Rattle.rules.proofs.Collect.{eqb-sym}
 use Rattle.rules.proofs.PilePlaces.{pile-place}
-
-pub byte-num : (b : Bool) → boolByte b ≡ num b
-byte-num true = refl
-byte-num false = refl
+use Rattle.hidden_counts.proofs.Head.{less-one}
 
 -- `1 << c`
 pub bit-shifted : (c k : ℕ) → k < 64 → bit (1 * 2 ^ c % 2 ^ 64) k ≡ eqb c k
@@ -96,20 +93,6 @@ fronts-step d m i s y r low l h es ey er =
     ∙ mask-ext 52 _ _ (λ c q. sym (any-more i (λ j. anyOf (m j) (λ k. eqb (placed d j k) c))))
 
 -- ---- the places that the loops read
-
-pub less-one : (x : ℕ) → x - boolByte (ltb 0 x) ≡ x - 1
-less-one x = go (ltb 0 x) refl
-  where
-    go : (b : Bool) → ltb 0 x ≡ b → x - boolByte b ≡ x - 1
-    go true e = refl
-    go false e = omega (arith, ltb-false 0 x e)
-
-pub some-le : (k x : ℕ) → boolByte (ltb k x) ≤ x
-some-le k x = go (ltb k x) refl
-  where
-    go : (b : Bool) → ltb k x ≡ b → boolByte b ≤ x
-    go true e = let l : k < x = ltb-true k x e in omega arith
-    go false e = omega arith
 
 -- the places of a pile's first x cards, x not above its size; where s is the pile's start
 pub in-deal : (i x s : ℕ) → i < 7 → x ≤ i + 1 → s ≡ pileStart i → s + x ≤ 52

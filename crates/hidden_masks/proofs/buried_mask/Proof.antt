@@ -1,4 +1,4 @@
--- `hidden::buried_mask` meets its contract.
+-- `hidden_masks::buried_mask` meets its contract.
 -- Assumes nothing.
 use borrow.Author.Needs.{needs}
 use mathlib.Core.Path.{_≡_, refl}
@@ -9,9 +9,10 @@ use lib.ListN.{getD}
 use mir.Val.{boolByte}
 use Rattle.rules.specs.Bits.{maskOf, anyOf}
 use Rattle.rules.specs.Hidden.{buriedIn}
-use Rattle.hidden.proofs.Collected.{fronts, fronts-step, some-le, less-one, in-deal}
-use Rattle.hidden.proofs.buried_mask.Statement.{statement}
-use Rattle.hidden.proofs.buried_mask.Tie as tie
+use Rattle.hidden_counts.proofs.Head.{less-one, some-le}
+use Rattle.hidden_masks.proofs.Collected.{fronts, fronts-step, in-deal}
+use Rattle.hidden_masks.proofs.buried_mask.Statement.{statement}
+use Rattle.hidden_masks.proofs.buried_mask.Tie as tie
 
 abbrev Inv-loop : tie.InvT-loop
 Inv-loop deal counts mask₀ i₀ mask i = (i ≤ 7) × (mask ≡ fronts deal (λ j. getD counts j 0 - 1) i)

@@ -1,4 +1,4 @@
--- `hidden::locked_mask` meets its contract.
+-- `hidden_masks::locked_mask` meets its contract.
 -- Assumes nothing.
 use borrow.Author.Needs.{needs}
 use mathlib.Core.Path.{ap₂, _∙_}
@@ -6,9 +6,9 @@ use lib.Bits.{bitOr}
 use Rattle.bits.proofs.Algebra.{or-masks}
 use Rattle.bits.proofs.Laws.{mask-ext}
 use Rattle.rules.specs.Hidden.{buriedIn, headIn}
-use Rattle.hidden.proofs.Found.{locked-both}
-use Rattle.hidden.proofs.locked_mask.Statement.{statement}
-use Rattle.hidden.proofs.locked_mask.Tie as tie
+use Rattle.hidden_masks.proofs.Locked.{locked-both}
+use Rattle.hidden_masks.proofs.locked_mask.Statement.{statement}
+use Rattle.hidden_masks.proofs.locked_mask.Tie as tie
 
 buried-mask-requires : tie.Need-buried-mask-requires
 buried-mask-requires c κs = search needs

@@ -1,4 +1,4 @@
--- `hidden::encode` meets its contract.
+-- `hidden_counts::encode` meets its contract.
 -- Assumes nothing.
 use borrow.Author.Needs.{needs}
 use mathlib.Core.Path.{_≡_, _∙_}
@@ -7,8 +7,8 @@ use native.Mathlib.Omega.{arith}
 use lib.ListN.{getD}
 use Rattle.rules.specs.Code.{countsField}
 use Rattle.rules.proofs.PileField.{fieldFrom, field-none, field-more, field-whole, from-low}
-use Rattle.hidden.proofs.encode.Statement.{statement}
-use Rattle.hidden.proofs.encode.Tie as tie
+use Rattle.hidden_counts.proofs.encode.Statement.{statement}
+use Rattle.hidden_counts.proofs.encode.Tie as tie
 
 abbrev Inv-loop : tie.InvT-loop
 Inv-loop counts res₀ i₀ res i = (i ≤ 7) × (res ≡ fieldFrom (λ j. getD counts j 0) (7 - i) i)

@@ -1,4 +1,4 @@
--- `hidden::total_down_cards` meets its contract.
+-- `hidden_counts::total_down_cards` meets its contract.
 -- Assumes nothing.
 use borrow.Author.Needs.{needs}
 use mathlib.Core.Path.{_≡_, refl, sym}
@@ -7,9 +7,9 @@ use native.Mathlib.Omega.{arith}
 use lib.ListN.{getD}
 use Rattle.rules.proofs.Steps.{sum-more}
 use Rattle.rules.specs.Hidden.{sumOf, downCards}
-use Rattle.hidden.proofs.Collected.{some-le, less-one}
-use Rattle.hidden.proofs.total_down_cards.Statement.{statement}
-use Rattle.hidden.proofs.total_down_cards.Tie as tie
+use Rattle.hidden_counts.proofs.Head.{less-one, some-le}
+use Rattle.hidden_counts.proofs.total_down_cards.Statement.{statement}
+use Rattle.hidden_counts.proofs.total_down_cards.Tie as tie
 
 abbrev Inv-loop : tie.InvT-loop
 Inv-loop counts sum₀ i₀ sum i = (i ≤ 7) × (sum ≡ sumOf i (λ j. getD counts j 0 - 1)) × (sum ≤ 6 * i)

@@ -1,4 +1,4 @@
--- `hidden::is_all_up` meets its contract.
+-- `hidden_counts::is_all_up` meets its contract.
 -- Assumes nothing.
 use borrow.Author.Needs.{needs}
 use mathlib.Core.Bool.{true}
@@ -11,8 +11,8 @@ use borrow.Author.Tests.{lt-leb, le-leb}
 use Rattle.rules.proofs.Steps.{all-more, no-all}
 use Rattle.rules.specs.Bits.{allOf}
 use Rattle.rules.specs.Hidden.{allUp}
-use Rattle.hidden.proofs.is_all_up.Statement.{statement}
-use Rattle.hidden.proofs.is_all_up.Tie as tie
+use Rattle.hidden_counts.proofs.is_all_up.Statement.{statement}
+use Rattle.hidden_counts.proofs.is_all_up.Tie as tie
 
 abbrev Inv-loop : tie.InvT-loop
 Inv-loop counts i₀ i = (i ≤ 7) × (allOf i (λ k. leb (getD counts k 0) 1) ≡ true)
