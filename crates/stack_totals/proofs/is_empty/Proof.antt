@@ -1,9 +1,9 @@
--- `stack::is_empty` meets its contract.
+-- `stack_totals::is_empty` meets its contract.
 -- Assumes nothing.
 use Rattle.rules.specs.Foundations.{emptyOn}
 use borrow.Author.Needs.{needs}
-use Rattle.stack.proofs.is_empty.Statement.{statement}
-use Rattle.stack.proofs.is_empty.Tie as tie
+use Rattle.stack_totals.proofs.is_empty.Statement.{statement}
+use Rattle.stack_totals.proofs.is_empty.Tie as tie
 
 all-are-requires : tie.Need-all-are-requires
 all-are-requires c κs = search needs

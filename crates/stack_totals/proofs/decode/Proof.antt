@@ -1,4 +1,4 @@
--- `stack::decode` meets its contract.
+-- `stack_totals::decode` meets its contract.
 -- Assumes nothing.
 use mathlib.Core.Path.{_≡_}
 use mathlib.Core.List.{[], _∷_}
@@ -7,8 +7,8 @@ use native.Mathlib.Nat.{div-one}
 use native.Mathlib.Omega.{arith}
 use lib.Bits.{and-mask}
 use Rattle.rules.specs.Code.{table, codeHeight}
-use Rattle.stack.proofs.decode.Statement.{statement}
-use Rattle.stack.proofs.decode.Tie as tie
+use Rattle.stack_totals.proofs.decode.Statement.{statement}
+use Rattle.stack_totals.proofs.decode.Tie as tie
 
 cast-t3 : tie.Need-cast-t3
 cast-t3 c = omega (arith, and-mask (c .args .field) 4)

@@ -1,9 +1,9 @@
--- `stack::is_full` meets its contract.
+-- `stack_totals::is_full` meets its contract.
 -- Assumes nothing.
 use Rattle.rules.specs.Foundations.{fullOn}
 use borrow.Author.Needs.{needs}
-use Rattle.stack.proofs.is_full.Statement.{statement}
-use Rattle.stack.proofs.is_full.Tie as tie
+use Rattle.stack_totals.proofs.is_full.Statement.{statement}
+use Rattle.stack_totals.proofs.is_full.Tie as tie
 
 all-are-requires : tie.Need-all-are-requires
 all-are-requires c κs = search needs

@@ -1,4 +1,4 @@
--- `stack::all_are` meets its contract.
+-- `stack_totals::all_are` meets its contract.
 -- Assumes nothing.
 use mathlib.Core.Bool.{Bool, true}
 use mathlib.Core.Path.{_≡_}
@@ -7,10 +7,10 @@ use native.Mathlib.Omega.{arith}
 use lib.Dec.{eqb, lit<}
 use lib.ListN.{getD}
 use borrow.Author.Tests.{eq-eqb, ne-eqb}
-use Rattle.stack.proofs.Four.{one-fails, last-decides, below3}
+use Rattle.stack_totals.proofs.Four.{one-fails, last-decides, below3}
 use borrow.Author.Needs.{needs}
-use Rattle.stack.proofs.all_are.Statement.{statement}
-use Rattle.stack.proofs.all_are.Tie as tie
+use Rattle.stack_totals.proofs.all_are.Statement.{statement}
+use Rattle.stack_totals.proofs.all_are.Tie as tie
 
 abbrev test : tie.Start → ℕ → Bool
 test c s = eqb (getD (c .args .t1) s 0) (c .args .height)

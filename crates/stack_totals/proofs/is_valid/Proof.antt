@@ -1,4 +1,4 @@
--- `stack::is_valid` meets its contract.
+-- `stack_totals::is_valid` meets its contract.
 -- Assumes nothing.
 use mathlib.Core.Bool.{Bool, true}
 use mathlib.Core.Path.{_≡_}
@@ -7,11 +7,11 @@ use native.Mathlib.Omega.{arith}
 use lib.Dec.{leb, lit<}
 use lib.ListN.{getD}
 use borrow.Author.Tests.{le-leb, lt-leb}
-use Rattle.stack.proofs.Four.{one-fails, last-decides, below3}
+use Rattle.stack_totals.proofs.Four.{one-fails, last-decides, below3}
 use Rattle.rules.specs.Foundations.{validOn}
 use borrow.Author.Needs.{needs}
-use Rattle.stack.proofs.is_valid.Statement.{statement}
-use Rattle.stack.proofs.is_valid.Tie as tie
+use Rattle.stack_totals.proofs.is_valid.Statement.{statement}
+use Rattle.stack_totals.proofs.is_valid.Tie as tie
 
 abbrev test : tie.Start → ℕ → Bool
 test c s = leb (getD (c .args .t1) s 0) 13
