@@ -1,8 +1,8 @@
--- A search over the piles: a pile passes where it has the place, and the card is there. The card under a head; the locked cards.
+-- A search over the piles: a pile passes where it has the place, and the card is there. The card under a head.
 -- Assumes nothing.
-use mathlib.Core.Bool.{Bool, true, false, _&&_, _||_, cond, and-true, or-comm, true≢false}
+use mathlib.Core.Bool.{Bool, true, false, _&&_, cond, and-true, true≢false}
 use mathlib.Core.Path.{_≡_, sym, ap, ap₂, _∙_}
-use mathlib.Core.List.{List, []}
+use mathlib.Core.List.{List}
 use Prim.Native.Nat.{ℕ, _+_, _-_, _≤_, _<_}
 use native.Mathlib.Omega.{arith}
 use lib.Dec.{eqb, ltb, leb}
@@ -11,11 +11,7 @@ use native.Mathlib.Nat.{add-zero}
 use borrow.Author.Tests.{ltb-true, leb-true, lt-ltb, le-leb}
 use Rattle.bits.proofs.Tables.{same-test}
 use Rattle.rules.specs.declared.TurnedUp.the-variants.{Emptied, Card}
-use Rattle.rules.specs.declared.Position.{Position}
-use Rattle.rules.specs.Places.{isHead, isBuried}
-use Rattle.rules.specs.Hidden.{CountsFit, placed, headOf, bareOf, headIn, buriedIn, lockedIn}
-use Rattle.rules.proofs.HiddenLaw.{buried-is, head-is, locked-in}
-use Rattle.rules.proofs.ProperLaw.{locked-is}
+use Rattle.rules.specs.Hidden.{CountsFit, placed, headOf, bareOf}
 use Rattle.hidden.specs.Places.{hasPlace, standsAt, lastOf}
 use Rattle.rules.proofs.Searches.{and-left, and-right, and-both}
 
@@ -56,12 +52,3 @@ under-last d i n =
     ap₂ (λ (b : Bool) (k : ℕ). cond b (Card (record { 0 = placed d i k })) Emptied)
     (same-test (ltb 0 (n - 1)) (ltb 1 n) (λ h. lt-ltb 1 n (omega (arith, ltb-true 0 (n - 1) h))) (λ h. lt-ltb 0 (n - 1) (omega (arith, ltb-true 1 n h))))
     (omega arith)
-
--- a locked card is buried or a head
-pub locked-both : (d n : List ℕ) (c : ℕ) → (buriedIn d n c || headIn d n c) ≡ lockedIn d n c
-locked-both d n c =
-    ap₂ _||_ (buried-is p c) (head-is p c) ∙ or-comm (isBuried p c) (isHead p c) ∙ sym (locked-in p c ∙ locked-is p c)
-  where
-    -- any position of this deal with these counts
-    p : Position
-    p = record { deal = d; step = 0; counts = n; heights = []; deck = []; left = 0; offset = 0; visible = 0 }

@@ -1,2 +1,1 @@
-pub mod Collected
 pub mod Found

@@ -18,7 +18,8 @@ use Rattle.rules.specs.Bits.{anyOf, allOf}
 use Rattle.rules.specs.Places.{pileStart}
 use Rattle.rules.specs.Hidden.{CardsFit, cardsFrom}
 use Rattle.rules.proofs.Searches.{any-snoc, any-yes, any-ext, all-yes}
-use Rattle.hidden.proofs.Collected.{cards-are, cards-step, less-one, some-le}
+use Rattle.hidden_counts.proofs.Head.{less-one, some-le}
+use Rattle.hidden_masks.proofs.Collected.{cards-are, cards-step}
 
 any-plus : (a b : ℕ) (f : ℕ → Bool) → anyOf (a + b) f ≡ (anyOf a f || anyOf b (λ k. f (a + k)))
 unfolding anyOf

@@ -11,7 +11,7 @@ use borrow.Author.Count.{below-more}
 use Rattle.rules.specs.Places.{pileStart}
 use Rattle.rules.proofs.Steps.{first-at, first-none}
 use Rattle.hidden.specs.Places.{hasPlace, standsAt}
-use Rattle.hidden.proofs.Collected.{in-deal}
+use Rattle.hidden_masks.proofs.Collected.{in-deal}
 use Rattle.hidden.proofs.Found.{card-there, other-card, no-place, place-fits, place-some}
 use Rattle.hidden.proofs.find_at.Statement.{statement}
 use Rattle.hidden.proofs.find_at.Tie as tie

@@ -10,7 +10,7 @@ use borrow.Author.Tests.{lt-ltb, le-ltb}
 use Rattle.rules.specs.declared.TurnedUp.the-variants.{Emptied, Card}
 use Rattle.rules.specs.Places.{pileStart}
 use Rattle.rules.specs.Hidden.{placed}
-use Rattle.hidden.proofs.Collected.{in-deal}
+use Rattle.hidden_masks.proofs.Collected.{in-deal}
 use Rattle.hidden.proofs.last_of.Statement.{statement}
 use Rattle.hidden.proofs.last_of.Tie as tie
 

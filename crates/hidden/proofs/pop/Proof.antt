@@ -7,7 +7,7 @@ use native.Mathlib.Omega.{arith}
 use lib.ListN.{getD, set}
 use Rattle.rules.specs.Hidden.{oneLess, underIn}
 use Rattle.hidden.specs.Places.{lastOf}
-use Rattle.hidden.proofs.Collected.{less-one, some-le}
+use Rattle.hidden_counts.proofs.Head.{less-one, some-le}
 use Rattle.hidden.proofs.Found.{under-last}
 use Rattle.hidden.proofs.pop.Statement.{statement}
 use Rattle.hidden.proofs.pop.Tie as tie

@@ -16,7 +16,8 @@ use Rattle.rules.specs.Hidden.{cardsFrom, placed, buriedIn, headIn}
 use Rattle.rules.specs.Proper.{areCards, areDifferent}
 use Rattle.rules.proofs.Searches.{and-left, and-right}
 use Rattle.rules.proofs.Steps.{any-more}
-use Rattle.hidden.proofs.Collected.{fronts, fronts-step, some-le, picked as tops}
+use Rattle.hidden_counts.proofs.Head.{some-le}
+use Rattle.hidden_masks.proofs.Collected.{fronts, fronts-step, picked as tops}
 use Rattle.proper.specs.Masks.{IsDeal}
 use Rattle.rules.proofs.DealLaw.{cards-low, different-inj}
 use Rattle.proper.proofs.Cuts.{buried-turn, heads-turn, in-piles}

@@ -10,7 +10,7 @@ use Rattle.bits.specs.Bit.{maskOf}
 use Rattle.bits.proofs.Laws.{has-shr}
 use Rattle.rules.specs.Bits.{anyOf}
 use Rattle.rules.specs.Hidden.{CardsFit, cardsFrom}
-use Rattle.hidden.proofs.Collected.{cards-step}
+use Rattle.hidden_masks.proofs.Collected.{cards-step}
 use Rattle.proper.specs.Masks.{picked}
 use Rattle.proper.proofs.Deck.{stock-length, stock-at}
 use Rattle.proper.proofs.Picking.{pick-step}

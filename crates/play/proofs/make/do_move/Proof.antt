@@ -15,7 +15,7 @@ use Rattle.rules.specs.Play.{deckPlace}
 use Rattle.rules.proofs.Facts.{facts}
 use Rattle.rules.proofs.Shape.{shape}
 use Rattle.laws.proofs.Deck.{place-low}
-use Rattle.hidden.proofs.Collected.{in-deal}
+use Rattle.hidden_masks.proofs.Collected.{in-deal}
 use Rattle.play.proofs.Known.{counts-fit, same-fit, suit-fits, low-height, deck-stack-in, deck-pile-in}
 use Rattle.play.proofs.LastKind.{rest}
 use Rattle.play.proofs.Written.{drawn-up, drawn-shown, down-shown, up-hidden, turned-card, turned-emptied}

@@ -9,7 +9,7 @@ use lib.Dec.{T}
 use lib.ListN.{getD}
 use Rattle.rules.specs.Places.{pileStart, pileCard, cardAt}
 use Rattle.rules.proofs.Facts.{facts}
-use Rattle.hidden.proofs.Collected.{in-deal}
+use Rattle.hidden_masks.proofs.Collected.{in-deal}
 use Rattle.play.specs.Made.{hasWay}
 use Rattle.play.proofs.Known.{counts-fit, same-fit, suit-fits, low-height, deck-stack-way, deck-pile-way}
 use Rattle.play.proofs.LastKind.{rest}

@@ -1,0 +1,102 @@
+-- Masks that a loop collects: by the byte, by a card of each pile, by the first cards of each pile. And the places that the loops read.
+-- Assumes nothing.
+use mathlib.Core.Bool.{Bool, true, false, _&&_, _||_}
+use mathlib.Core.Path.{_≡_, refl, sym, ap, ap₂, _∙_}
+use mathlib.Core.List.{List}
+use Prim.Native.Nat.{ℕ, _+_, _-_, _*_, _%_, _^_, _≤_, _<_}
+use native.Mathlib.Nat.{one-mul}
+use native.Mathlib.Omega.{arith}
+use lib.Dec.{eqb, ltb, lit≤}
+use lib.ListN.{getD}
+use lib.Bits.{bitAnd, bitOr, and-mask}
+use mir.Val.{boolByte}
+use borrow.Author.Tests.{ne-eqb}
+use Rattle.bits.specs.Bit.{bit, maskOf}
+use Rattle.bits.proofs.Laws.{bit-or, bit-mask, bit-mod, mask-is, mask-lt, mask-ext, mod-64, or-small}
+use Rattle.bits.proofs.Counts.{bit-card}
+use Rattle.bits.proofs.Algebra.{or-masks, mask-cut}
+use Rattle.rules.specs.Bits.{anyOf}
+use Rattle.rules.specs.Places.{pileStart}
+use Rattle.rules.specs.Hidden.{CardsFit, placed, cardsFrom}
+use Rattle.rules.proofs.Searches.{any-ext}
+use Rattle.rules.proofs.Steps.{any-more}
+use Rattle.rules.proofs.ProperMade.{none-any}
+use Rattle.rules.proofs.Collect.{eqb-sym}
+use Rattle.rules.proofs.PilePlaces.{pile-place}
+use Rattle.hidden_counts.proofs.Head.{less-one}
+
+-- `1 << c`
+pub bit-shifted : (c k : ℕ) → k < 64 → bit (1 * 2 ^ c % 2 ^ 64) k ≡ eqb c k
+bit-shifted c k l = bit-mod 64 (1 * 2 ^ c) k l ∙ ap (λ (x : ℕ). bit x k) (one-mul (2 ^ c)) ∙ bit-card c k ∙ eqb-sym k c
+
+-- a mask whose cards are below 52
+pub low-mask : (f : ℕ → Bool) → ((c : ℕ) → 52 ≤ c → f c ≡ false) → maskOf 64 f ≡ maskOf 52 f
+low-mask f h = sym (mask-cut 52 64 f (lit≤ tt) (λ k l m. h k l))
+
+high-card : (x c : ℕ) → x < 52 → 52 ≤ c → eqb x c ≡ false
+high-card x c h l = ne-eqb x c (λ e. omega arith)
+
+-- ---- the bytes at some places, modulo 64
+
+or-card : (f : ℕ → Bool) (c : ℕ) → bitOr (maskOf 64 f) (1 * 2 ^ c % 2 ^ 64) ≡ maskOf 64 (λ k. f k || eqb c k)
+or-card f c =
+    mask-is 64 (λ k. f k || eqb c k) _ (or-small _ _ (mask-lt 64 f) (mod-64 (1 * 2 ^ c)))
+    (λ k l. bit-or (maskOf 64 f) (1 * 2 ^ c % 2 ^ 64) k ∙ ap₂ _||_ (bit-mask 64 f k l) (bit-shifted c k l))
+
+pub cards-step : (d : List ℕ) (s k : ℕ) → bitOr (cardsFrom d s k) (1 * 2 ^ bitAnd (getD d (s + k) 0) 63 % 2 ^ 64) ≡ cardsFrom d s (k + 1)
+unfolding cardsFrom
+cards-step d s k =
+    ap (λ (x : ℕ). bitOr (maskOf 64 (λ c. anyOf k (λ j. eqb (getD d (s + j) 0 % 64) c))) (1 * 2 ^ x % 2 ^ 64)) (and-mask (getD d (s + k) 0) 6)
+    ∙ or-card (λ c. anyOf k (λ j. eqb (getD d (s + j) 0 % 64) c)) (getD d (s + k) 0 % 64)
+    ∙ mask-ext 64 _ _ (λ c l. sym (any-more k (λ j. eqb (getD d (s + j) 0 % 64) c)))
+
+-- bytes that are cards
+small-byte : (x c : ℕ) → x < 52 → eqb (x % 64) c ≡ eqb x c
+small-byte x c h = let e : x % 64 ≡ x = omega arith in ap (λ (y : ℕ). eqb y c) e
+
+pub cards-are : (d : List ℕ) (s n : ℕ) → ((k : ℕ) → k < n → getD d (s + k) 0 < 52) → cardsFrom d s n ≡ maskOf 52 (λ c. anyOf n (λ k. eqb (getD d (s + k) 0) c))
+unfolding cardsFrom
+cards-are d s n low =
+    mask-ext 64 _ (λ c. anyOf n (λ k. eqb (getD d (s + k) 0) c)) (λ c l. any-ext n (λ k. eqb (getD d (s + k) 0 % 64) c) _ (λ k m. small-byte _ c (low k m)))
+    ∙ low-mask (λ c. anyOf n (λ k. eqb (getD d (s + k) 0) c)) (λ c l. none-any n _ (λ k m. high-card _ c (low k m) l))
+
+-- ---- of the first i piles, the card x of each that passes the test b
+
+abbrev pub picked : (ℕ → Bool) → (ℕ → ℕ) → ℕ → ℕ
+picked b x i = maskOf 52 (λ c. anyOf i (λ j. b j && eqb (x j) c))
+
+none : 0 ≡ maskOf 52 (λ k. false)
+unfolding maskOf
+none = refl
+
+card-if : (b : Bool) (c : ℕ) → c < 52 → boolByte b * 2 ^ c % 2 ^ 64 ≡ maskOf 52 (λ k. b && eqb c k)
+card-if true c l = mask-is 64 (eqb c) _ (mod-64 (1 * 2 ^ c)) (bit-shifted c) ∙ low-mask (eqb c) (λ k h. high-card c k l h)
+card-if false c l = let z : 0 * 2 ^ c ≡ 0 = omega arith in ap (λ (x : ℕ). x % 2 ^ 64) z ∙ none
+
+pub picked-step : (b : ℕ → Bool) (x : ℕ → ℕ) (i y : ℕ) → y < 52 → (b i ≡ true → y ≡ x i) → bitOr (picked b x i) (boolByte (b i) * 2 ^ y % 2 ^ 64) ≡ picked b x (i + 1)
+picked-step b x i y l e =
+    ap (bitOr (picked b x i)) (card-if (b i) y l) ∙ or-masks 52 _ _
+    ∙ mask-ext 52 _ _ (λ c m. ap (λ (t : Bool). anyOf i (λ j. b j && eqb (x j) c) || t) (same (b i) c e) ∙ sym (any-more i (λ j. b j && eqb (x j) c)))
+  where
+    same : (t : Bool) (c : ℕ) → (t ≡ true → y ≡ x i) → (t && eqb y c) ≡ (t && eqb (x i) c)
+    same true c h = ap (λ (z : ℕ). eqb z c) (h refl)
+    same false c h = refl
+
+-- ---- of the first i piles, the first m cards of each
+
+abbrev pub fronts : List ℕ → (ℕ → ℕ) → ℕ → ℕ
+fronts d m i = maskOf 52 (λ c. anyOf i (λ j. anyOf (m j) (λ k. eqb (placed d j k) c)))
+
+pub fronts-step : (d : List ℕ) (m : ℕ → ℕ) (i s y r : ℕ) → CardsFit d → i < 7 → m i ≤ i + 1 → s ≡ pileStart i → y ≡ m i → r ≡ cardsFrom d s y → bitOr (fronts d m i) r ≡ fronts d m (i + 1)
+fronts-step d m i s y r low l h es ey er =
+    ap (bitOr (fronts d m i)) (er ∙ ap₂ (cardsFrom d) es ey ∙ cards-are d (pileStart i) (m i) (λ k q. low _ (pile-place i k l (omega arith)))) ∙ or-masks 52 _ _
+    ∙ mask-ext 52 _ _ (λ c q. sym (any-more i (λ j. anyOf (m j) (λ k. eqb (placed d j k) c))))
+
+-- ---- the places that the loops read
+
+-- the places of a pile's first x cards, x not above its size; where s is the pile's start
+pub in-deal : (i x s : ℕ) → i < 7 → x ≤ i + 1 → s ≡ pileStart i → s + x ≤ 52
+in-deal i x s l m e = let p = pile-place i i l (omega arith) in omega arith
+
+pub last-place : (i x s : ℕ) → i < 7 → x ≤ i + 1 → s ≡ pileStart i → s + (x - boolByte (ltb 0 x)) < 52
+last-place i x s l m e = let p = pile-place i (x - 1) l (omega arith) in omega (arith, less-one x)

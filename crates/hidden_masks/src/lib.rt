@@ -1,0 +1,105 @@
+// The masks of the locked cards of the seven piles: the heads, the buried cards, the first cards of the piles.
+// A function takes what it reads, the deal and the counts, and requires no more than their ranges. Crate `hidden` passes these names on.
+ghost use mathlib.Core.Path.{_≡_};
+ghost use Prim.Native.Nat.{_+_, _≤_};
+ghost use lib.Dec.{T};
+ghost use lib.ListN.{length};
+ghost use Rattle.bits.specs.Bit.{maskOf};
+ghost use Rattle.rules.specs.Places.{isHead, alone};
+ghost use Rattle.rules.specs.Proper.{proper};
+ghost use Rattle.rules.specs.Hidden.{CardsFit, CountsFit, headIn, buriedIn, lockedIn, baseIn, cardsFrom};
+use rules::Position;
+
+const N_PILES: usize = card::N_PILES as usize;
+
+// The cards at the n places from start on, each byte modulo 64.
+pub fn cards_from(cards: &[u8], start: usize, n: usize) -> u64
+    requires { ⌜ start + n ≤ length (now cards) ⌝ }
+    ensures { λ r. ⌜ r ≡ cardsFrom (now (cards .entry)) start n ⌝ }
+{
+    let mut mask: u64 = 0;
+    let mut k: usize = 0;
+    while k < n {
+        mask |= 1u64 << (cards[start + k] & 63);
+        k += 1;
+    }
+    mask
+}
+
+// The heads.
+pub fn head_mask(deal: &[u8; 52], counts: &[u8; 7]) -> u64
+    requires { ⌜ CardsFit (now deal) ⌝ }
+    requires { ⌜ CountsFit (now counts) ⌝ }
+    ensures { λ r. ⌜ r ≡ maskOf 52 (headIn (now (deal .entry)) (now (counts .entry))) ⌝ }
+{
+    let mut mask: u64 = 0;
+    let mut i: usize = 0;
+    while i < N_PILES {
+        let n = counts[i] as usize;
+        let some = (0 < n) as usize;
+        let at = card::pile_start(i) as usize + n - some;
+        mask |= (some as u64) << deal[at];
+        i += 1;
+    }
+    mask
+}
+
+// The first card of each pile.
+pub fn base_mask(deal: &[u8; 52]) -> u64
+    requires { ⌜ CardsFit (now deal) ⌝ }
+    ensures { λ r. ⌜ r ≡ maskOf 52 (baseIn (now (deal .entry))) ⌝ }
+{
+    let mut mask: u64 = 0;
+    let mut i: usize = 0;
+    while i < N_PILES {
+        let at = card::pile_start(i) as usize;
+        mask |= 1u64 << deal[at];
+        i += 1;
+    }
+    mask
+}
+
+// The buried cards.
+pub fn buried_mask(deal: &[u8; 52], counts: &[u8; 7]) -> u64
+    requires { ⌜ CardsFit (now deal) ⌝ }
+    requires { ⌜ CountsFit (now counts) ⌝ }
+    ensures { λ r. ⌜ r ≡ maskOf 52 (buriedIn (now (deal .entry)) (now (counts .entry))) ⌝ }
+{
+    let mut mask: u64 = 0;
+    let mut i: usize = 0;
+    while i < N_PILES {
+        let n = counts[i] as usize;
+        let head = (0 < n) as usize;
+        mask |= cards_from(deal, card::pile_start(i) as usize, n - head);
+        i += 1;
+    }
+    mask
+}
+
+// The buried cards and the heads.
+pub fn locked_mask(deal: &[u8; 52], counts: &[u8; 7]) -> u64
+    requires { ⌜ CardsFit (now deal) ⌝ }
+    requires { ⌜ CountsFit (now counts) ⌝ }
+    ensures { λ r. ⌜ r ≡ maskOf 52 (lockedIn (now (deal .entry)) (now (counts .entry))) ⌝ }
+{
+    buried_mask(deal, counts) | head_mask(deal, counts)
+}
+
+// The heads, and those of them that are alone: a head stands at the base of its pile just where its count is 1.
+pub struct HeadMasks {
+    pub all: u64,
+    pub alone: u64,
+}
+
+pub fn heads(p: Position) -> HeadMasks
+    requires { ⌜ T (proper p) ⌝ }
+    ensures { λ r. ⌜ (r .all ≡ maskOf 52 (isHead p)) × (r .alone ≡ maskOf 52 (alone p)) ⌝ }
+{
+    let deal = p.deal;
+    let counts = p.counts;
+    let all = head_mask(&deal, &counts);
+    HeadMasks {
+        all: all,
+        alone: all & base_mask(&deal),
+    }
+}

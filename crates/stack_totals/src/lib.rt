@@ -1,0 +1,90 @@
+// What speaks of all four foundations: tests of every height, their sum, and the heights' field of the save code.
+// Crate `stack` passes these names on.
+ghost use mathlib.Core.Path.{_≡_};
+ghost use lib.Dec.{eqb};
+ghost use lib.ListN.{getD};
+ghost use Rattle.rules.specs.Bits.{allOf};
+ghost use Rattle.rules.specs.Foundations.{validOn, fullOn, emptyOn, cardsOn, fieldOn};
+ghost use Rattle.rules.specs.Code.{table, codeHeight};
+
+// The height of a full foundation.
+const N_RANKS: u8 = card::N_RANKS;
+
+// A height takes four bits of the save code: the values that they have, and the lowest four bits.
+const FIELD: u32 = 16;
+
+const LOW: u16 = 15;
+
+// Is each height one that a foundation can have?
+pub fn is_valid(heights: [u8; 4]) -> bool
+    ensures { λ r. ⌜ r ≡ validOn heights ⌝ }
+{
+    if heights[0] > N_RANKS {
+        return false;
+    }
+    if heights[1] > N_RANKS {
+        return false;
+    }
+    if heights[2] > N_RANKS {
+        return false;
+    }
+    heights[3] <= N_RANKS
+}
+
+// Is each foundation of this height?
+fn all_are(heights: [u8; 4], height: u8) -> bool
+    ensures { λ r. ⌜ r ≡ allOf 4 (λ s. eqb (getD heights s 0) height) ⌝ }
+{
+    if heights[0] != height {
+        return false;
+    }
+    if heights[1] != height {
+        return false;
+    }
+    if heights[2] != height {
+        return false;
+    }
+    heights[3] == height
+}
+
+// Is every foundation full?
+pub fn is_full(heights: [u8; 4]) -> bool
+    ensures { λ r. ⌜ r ≡ fullOn heights ⌝ }
+{
+    all_are(heights, N_RANKS)
+}
+
+// Is every foundation empty?
+pub fn is_empty(heights: [u8; 4]) -> bool
+    ensures { λ r. ⌜ r ≡ emptyOn heights ⌝ }
+{
+    all_are(heights, 0)
+}
+
+// How many cards are on the foundations.
+pub fn len(heights: [u8; 4]) -> u32
+    ensures { λ r. ⌜ r ≡ cardsOn heights ⌝ }
+{
+    heights[0] as u32 + heights[1] as u32 + heights[2] as u32 + heights[3] as u32
+}
+
+// The heights' field of the save code. It is summed, and not joined by `|`: so it is exact for every byte, also for those that
+// take more than four bits.
+pub fn encode(heights: [u8; 4]) -> u32
+    ensures { λ r. ⌜ r ≡ fieldOn heights ⌝ }
+{
+    heights[0] as u32
+        + FIELD * (heights[1] as u32 + FIELD * (heights[2] as u32 + FIELD * heights[3] as u32))
+}
+
+// The four heights that a field holds.
+pub fn decode(field: u16) -> [u8; 4]
+    ensures { λ r. ⌜ r ≡ table 4 (codeHeight field) ⌝ }
+{
+    [
+        (field & LOW) as u8,
+        ((field >> 4) & LOW) as u8,
+        ((field >> 8) & LOW) as u8,
+        ((field >> 12) & LOW) as u8,
+    ]
+}
