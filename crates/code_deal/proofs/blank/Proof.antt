@@ -1,9 +1,9 @@
--- `code::blank` meets its contract.
+-- `code_deal::blank` meets its contract.
 -- Assumes nothing.
 use mathlib.Core.Path.{refl}
 use Rattle.rules.specs.Code.{blank}
-use Rattle.code.proofs.blank.Statement.{statement}
-use Rattle.code.proofs.blank.Tie as tie
+use Rattle.code_deal.proofs.blank.Statement.{statement}
+use Rattle.code_deal.proofs.blank.Tie as tie
 
 returns : tie.Need-returns
 unfolding blank

@@ -1,4 +1,4 @@
--- `code::deal_refusal` meets its contract.
+-- `code_deal::deal_refusal` meets its contract.
 -- Assumes nothing.
 use mathlib.Core.Bool.{true, false}
 use mathlib.Core.Path.{_≡_, refl, sym, ap, _∙_}
@@ -12,10 +12,10 @@ use Rattle.rules.specs.Bits.{allOf}
 use Rattle.rules.specs.Proper.{areCards, areDifferent, stepRight}
 use Rattle.rules.proofs.ProperMade.{step-low, step-high, step-right}
 use Rattle.rules.proofs.Searches.{is-false}
-use Rattle.code.proofs.DealTest.{not-small, not-filled, filled-cards, different-is}
+use Rattle.code_deal.proofs.DealTest.{not-small, not-filled, filled-cards, different-is}
 use Rattle.rules.proofs.Refusing.{deal-tests}
-use Rattle.code.proofs.deal_refusal.Statement.{statement}
-use Rattle.code.proofs.deal_refusal.Tie as tie
+use Rattle.code_deal.proofs.deal_refusal.Statement.{statement}
+use Rattle.code_deal.proofs.deal_refusal.Tie as tie
 
 fair : (c : tie.Else2) → stepRight (c .before .before .before .args .step) ≡ true
 fair c = step-right (c .before .before .before .args .step) (omega arith) (c .if2 .left)

@@ -1,11 +1,11 @@
--- `code::fresh` meets its contract.
+-- `code_deal::fresh` meets its contract.
 -- Assumes nothing.
 use borrow.Author.Needs.{needs}
 use mathlib.Core.Path.{_≡_}
 use lib.ListN.{length}
-use Rattle.code.proofs.FreshMade.{whole-fits, fresh-made}
-use Rattle.code.proofs.fresh.Statement.{statement}
-use Rattle.code.proofs.fresh.Tie as tie
+use Rattle.code_deal.proofs.FreshMade.{whole-fits, fresh-made}
+use Rattle.code_deal.proofs.fresh.Statement.{statement}
+use Rattle.code_deal.proofs.fresh.Tie as tie
 
 deal-long : (c : tie.After-head-mask) → length (c .before .before .before .before .before .args .t2) ≡ 52
 deal-long c = search needs

@@ -1,4 +1,4 @@
--- What the parts of a deal and a resume give.
+-- What the parts of a resume give.
 use mathlib.Core.Bool.{not, _&&_}
 use Prim.Native.Nat.{ℕ, _%_, _/_, _^_, _≤_, _<_}
 use lib.ListN.{getD}
@@ -11,17 +11,10 @@ use Rattle.code.specs.declared.Fields.{Fields}
 use Rattle.code.specs.declared.Sets.{Sets}
 use Rattle.rules.specs.Proper.{pairRule, sevenRule}
 use Rattle.rules.specs.Play.{withVisible}
-use Rattle.rules.specs.Code.{codePiles, codeOffset, workedOut, blank}
-use Rattle.rules.specs.Refusals.{_refuses_else_, accepted, overlapping, unarranged}
+use Rattle.rules.specs.Code.{codePiles, codeOffset, workedOut}
+use Rattle.rules.specs.Refusals.{_refuses_else_, overlapping, unarranged}
 use Rattle.rules.specs.Answers.{overlaps}
-
--- refused: "A fresh deal or resume has no given position and returns the blank one"
-unfoldable pub refusedBy : ℕ → Started
-refusedBy n = record { refusal = n; position = blank }
-
--- the position p, unless there is a refusal r
-abbrev pub startedBy : ℕ → Position → Started
-startedBy r p = accepted r (record { refusal = 0; position = p }) (record { refusal = r; position = blank })
+use Rattle.code_deal.specs.Starts.{startedBy}
 
 -- the four fields of a code: "Bits 0-15", "Bits 16-31", "Bits 32-55", "Bits 56-63"
 unfoldable pub fieldsOf : ℕ → Fields

@@ -1,4 +1,4 @@
--- `code::deal` meets its contract.
+-- `code_deal::deal` meets its contract.
 -- Assumes nothing.
 use borrow.Author.Needs.{needs}
 use mathlib.Core.Path.{sym, ap, _∙_}
@@ -10,9 +10,9 @@ use Rattle.rules.specs.Code.{fresh}
 use Rattle.rules.specs.Answers.{dealRefusal, dealAnswer}
 use Rattle.rules.proofs.Refusing.{Dealt, deal-passed}
 use Rattle.rules.proofs.DealLaw.{cards-low}
-use Rattle.code.proofs.Answered.{is-refused, is-started}
-use Rattle.code.proofs.deal.Statement.{statement}
-use Rattle.code.proofs.deal.Tie as tie
+use Rattle.code_deal.proofs.Answered.{is-refused, is-started}
+use Rattle.code_deal.proofs.deal.Statement.{statement}
+use Rattle.code_deal.proofs.deal.Tie as tie
 
 -- a deal that is not refused passes its four tests
 dealt : (c : tie.Else1) → Dealt (c .before .before .before .args .cards .now) (c .before .before .before .args .step)

@@ -1,4 +1,4 @@
--- `code::as_deal` meets its contract.
+-- `code_deal::as_deal` meets its contract.
 -- Assumes nothing.
 use borrow.Author.Needs.{needs}
 use mathlib.Core.Path.{_≡_, refl, _∙_}
@@ -6,9 +6,9 @@ use Prim.Native.Nat.{_-_, _≤_}
 use native.Mathlib.Omega.{arith}
 use lib.ListN.{length}
 use lib.Seq.{take-all}
-use Rattle.code.proofs.Copies.{Copied, copy-step, copy-end}
-use Rattle.code.proofs.as_deal.Statement.{statement}
-use Rattle.code.proofs.as_deal.Tie as tie
+use Rattle.code_deal.proofs.Copies.{Copied, copy-step, copy-end}
+use Rattle.code_deal.proofs.as_deal.Statement.{statement}
+use Rattle.code_deal.proofs.as_deal.Tie as tie
 
 abbrev Inv-loop : tie.InvT-loop
 Inv-loop cards deal₀ k₀ deal k = (k ≤ 52) × Copied cards deal₀ k deal

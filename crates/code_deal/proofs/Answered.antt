@@ -5,7 +5,7 @@ use Prim.Native.Nat.{ℕ, zero, suc}
 use Rattle.rules.specs.declared.Position.{Position}
 use Rattle.rules.specs.declared.Started.{Started}
 use Rattle.rules.specs.Code.{blank}
-use Rattle.code.specs.Starts.{refusedBy, startedBy}
+use Rattle.code_deal.specs.Starts.{refusedBy, startedBy}
 
 pub is-refused : (n r : ℕ) (p : Position) → n ≡ r → (n ≡ 0 → ⊥) → refusedBy n ≡ startedBy r p
 unfolding refusedBy

@@ -1,9 +1,9 @@
--- `code::refused` meets its contract.
+-- `code_deal::refused` meets its contract.
 -- Assumes nothing.
 use borrow.Author.Needs.{needs}
-use Rattle.code.specs.Starts.{refusedBy}
-use Rattle.code.proofs.refused.Statement.{statement}
-use Rattle.code.proofs.refused.Tie as tie
+use Rattle.code_deal.specs.Starts.{refusedBy}
+use Rattle.code_deal.proofs.refused.Statement.{statement}
+use Rattle.code_deal.proofs.refused.Tie as tie
 
 blank-requires : tie.Need-blank-requires
 blank-requires c κs = search needs

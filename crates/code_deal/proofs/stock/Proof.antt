@@ -1,4 +1,4 @@
--- `code::stock` meets its contract.
+-- `code_deal::stock` meets its contract.
 -- Assumes nothing.
 use borrow.Author.Needs.{needs}
 use mathlib.Core.Path.{_≡_, refl, sym}
@@ -6,9 +6,9 @@ use Prim.Native.Nat.{_-_, _≤_, _<_}
 use native.Mathlib.Omega.{arith}
 use lib.ListN.{length, drop, length-drop}
 use lib.Seq.{getD-drop}
-use Rattle.code.proofs.Copies.{Copied, copy-step, copy-end}
-use Rattle.code.proofs.stock.Statement.{statement}
-use Rattle.code.proofs.stock.Tie as tie
+use Rattle.code_deal.proofs.Copies.{Copied, copy-step, copy-end}
+use Rattle.code_deal.proofs.stock.Statement.{statement}
+use Rattle.code_deal.proofs.stock.Tie as tie
 
 abbrev Inv-loop : tie.InvT-loop
 Inv-loop cards deck₀ k₀ deck k = (k ≤ 24) × Copied (drop 28 cards) deck₀ k deck
