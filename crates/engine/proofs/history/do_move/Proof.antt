@@ -14,8 +14,8 @@ use Rattle.rules.specs.Legal.{legal}
 use Rattle.rules.specs.History.{entry, isKindAndCard}
 use Rattle.rules.specs.Answers.{moveAnswer, moveRefusal, moveHistory}
 use Rattle.laws.proofs.EntryFits.{byte-fits}
-use Rattle.play.specs.declared.Made.{Made}
-use Rattle.play.specs.Made.{made}
+use Rattle.play_moves.specs.declared.Made.{Made}
+use Rattle.play_moves.specs.Made.{made}
 use Rattle.play.proofs.Answered.{denied, granted}
 use Rattle.engine.proofs.Judged.{is-wrong, is-right, is-proper}
 use Rattle.engine.proofs.history.do_move.Statement.{statement}

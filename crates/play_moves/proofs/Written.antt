@@ -12,7 +12,7 @@ use Rattle.rules.specs.Cards.{suit}
 use Rattle.rules.specs.Places.{count, pileCard}
 use Rattle.rules.specs.Foundations.{raisedOn, loweredOn}
 use Rattle.rules.specs.Play.{slots, drawAt, pushAt, deckPlace, raised, lowered, shown, hidden, drawn, putBack, turned, turnedBack, under, withVisible, withHeights, withCounts, withDeck}
-use Rattle.play.specs.Made.{turnedAt}
+use Rattle.play_moves.specs.Made.{turnedAt}
 
 -- the position with these fields
 abbrev pub written : Position → List ℕ → List ℕ → List ℕ → ℕ → ℕ → ℕ → Position

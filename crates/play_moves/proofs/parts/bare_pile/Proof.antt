@@ -1,8 +1,8 @@
--- `play::parts::bare_pile` meets its contract.
+-- `play_moves::parts::bare_pile` meets its contract.
 -- Assumes nothing.
 use borrow.Author.Needs.{needs}
-use Rattle.play.proofs.parts.bare_pile.Statement.{statement}
-use Rattle.play.proofs.parts.bare_pile.Tie as tie
+use Rattle.play_moves.proofs.parts.bare_pile.Statement.{statement}
+use Rattle.play_moves.proofs.parts.bare_pile.Tie as tie
 
 find-bare-requires : tie.Need-find-bare-requires
 find-bare-requires c κs = search needs

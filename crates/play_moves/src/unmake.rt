@@ -3,7 +3,7 @@ ghost use mathlib.Core.Path.{_≡_};
 ghost use lib.Dec.{T};
 ghost use Rattle.rules.specs.Proper.{proper};
 ghost use Rattle.rules.specs.Play.{before};
-ghost use Rattle.play.specs.Made.{hasWay};
+ghost use Rattle.play_moves.specs.Made.{hasWay};
 use crate::N_DECK_CARDS;
 use crate::N_PILES;
 use crate::parts::bare_pile;

@@ -1,4 +1,4 @@
--- `play::unmake::undo_move` meets its contract: halfway through it the kinds come together, and the pile is turned back for all of them.
+-- `play_moves::unmake::undo_move` meets its contract: halfway through it the kinds come together, and the pile is turned back for all of them.
 -- Assumes nothing.
 use borrow.Author.Needs.{needs}
 use mathlib.Core.Logic.{⊎-elim}
@@ -10,13 +10,13 @@ use lib.ListN.{getD}
 use Rattle.rules.specs.Places.{pileStart, pileCard, cardAt}
 use Rattle.rules.proofs.Facts.{facts}
 use Rattle.hidden.proofs.Collected.{in-deal}
-use Rattle.play.specs.Made.{hasWay}
-use Rattle.play.proofs.Known.{counts-fit, same-fit, suit-fits, low-height, deck-stack-way, deck-pile-way}
-use Rattle.play.proofs.LastKind.{rest}
-use Rattle.play.proofs.Written.{down-back, hidden-back, hidden-up, down-shown, back-card, back-emptied}
-use Rattle.play.proofs.Halfway.{Going, to-deck-down, to-deck, to-stack, head-down, card-down, head-back}
-use Rattle.play.proofs.unmake.undo_move.Statement.{statement}
-use Rattle.play.proofs.unmake.undo_move.Tie as tie
+use Rattle.play_moves.specs.Made.{hasWay}
+use Rattle.play_moves.proofs.Known.{counts-fit, same-fit, suit-fits, low-height, deck-stack-way, deck-pile-way}
+use Rattle.play_moves.proofs.LastKind.{rest}
+use Rattle.play_moves.proofs.Written.{down-back, hidden-back, hidden-up, down-shown, back-card, back-emptied}
+use Rattle.play_moves.proofs.Halfway.{Going, to-deck-down, to-deck, to-stack, head-down, card-down, head-back}
+use Rattle.play_moves.proofs.unmake.undo_move.Statement.{statement}
+use Rattle.play_moves.proofs.unmake.undo_move.Tie as tie
 
 -- ---- the card's suit, and room in the deck
 

@@ -6,7 +6,7 @@ use Prim.Native.Nat.{ℕ, zero, suc}
 use Rattle.rules.specs.declared.Position.{Position}
 use Rattle.rules.specs.Legal.{legal}
 use Rattle.rules.specs.Play.{after, undoByte, turnedUp, before}
-use Rattle.play.specs.Made.{made, hasWay}
+use Rattle.play_moves.specs.Made.{made, hasWay}
 
 -- what a match on the kind knows in its last arm
 pub record Last (kind : ℕ) : Type 0 where

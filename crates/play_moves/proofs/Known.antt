@@ -21,7 +21,7 @@ use Rattle.rules.proofs.Facts.{facts}
 use Rattle.rules.proofs.HiddenLaw.{head-pile-is, head-pile-none, bare-pile-found}
 use Rattle.laws.proofs.Deck.{available-in}
 use Rattle.laws.proofs.Piles.{head-pile}
-use Rattle.play.specs.Made.{leftPile, hasWay}
+use Rattle.play_moves.specs.Made.{leftPile, hasWay}
 
 pub suit-fits : (s c : ℕ) → s ≡ suit c → s < 4
 suit-fits s c e = subst (λ (x : ℕ). x < 4) (sym e) (suit-low c)

@@ -1,10 +1,10 @@
--- `play::parts::unseen` meets its contract.
+-- `play_moves::parts::unseen` meets its contract.
 -- Assumes nothing.
 use borrow.Author.Needs.{needs}
 use native.Mathlib.Omega.{arith}
-use Rattle.play.proofs.Sight.{without-is}
-use Rattle.play.proofs.parts.unseen.Statement.{statement}
-use Rattle.play.proofs.parts.unseen.Tie as tie
+use Rattle.play_moves.proofs.Sight.{without-is}
+use Rattle.play_moves.proofs.parts.unseen.Statement.{statement}
+use Rattle.play_moves.proofs.parts.unseen.Tie as tie
 
 mask-requires : tie.Need-mask-requires
 mask-requires c κs = search needs

@@ -1,4 +1,4 @@
--- `play::make::do_move` meets its contract: halfway through it the kinds come together, and the pile is turned for all of them.
+-- `play_moves::make::do_move` meets its contract: halfway through it the kinds come together, and the pile is turned for all of them.
 -- Assumes nothing.
 use borrow.Author.Needs.{needs}
 use mathlib.Core.Logic.{⊎-elim}
@@ -16,12 +16,12 @@ use Rattle.rules.proofs.Facts.{facts}
 use Rattle.rules.proofs.Shape.{shape}
 use Rattle.laws.proofs.Deck.{place-low}
 use Rattle.hidden.proofs.Collected.{in-deal}
-use Rattle.play.proofs.Known.{counts-fit, same-fit, suit-fits, low-height, deck-stack-in, deck-pile-in}
-use Rattle.play.proofs.LastKind.{rest}
-use Rattle.play.proofs.Written.{drawn-up, drawn-shown, down-shown, up-hidden, turned-card, turned-emptied}
-use Rattle.play.proofs.Halfway.{Making, from-deck-up, from-deck, from-stack, from-pile-up, to-pile}
-use Rattle.play.proofs.make.do_move.Statement.{statement}
-use Rattle.play.proofs.make.do_move.Tie as tie
+use Rattle.play_moves.proofs.Known.{counts-fit, same-fit, suit-fits, low-height, deck-stack-in, deck-pile-in}
+use Rattle.play_moves.proofs.LastKind.{rest}
+use Rattle.play_moves.proofs.Written.{drawn-up, drawn-shown, down-shown, up-hidden, turned-card, turned-emptied}
+use Rattle.play_moves.proofs.Halfway.{Making, from-deck-up, from-deck, from-stack, from-pile-up, to-pile}
+use Rattle.play_moves.proofs.make.do_move.Statement.{statement}
+use Rattle.play_moves.proofs.make.do_move.Tie as tie
 
 -- ---- the card's suit and its place in the deck
 

@@ -11,8 +11,8 @@ use Rattle.rules.specs.Bits.{num}
 use Rattle.rules.specs.Places.{count, pileCard, cardAt, deckCard, isHead, pileOf}
 use Rattle.rules.specs.Foundations.{raisedOn}
 use Rattle.rules.specs.Play.{raised, lowered, shown, hidden, drawn, putBack, turned, turnedBack, under, withVisible, withHeights, withCounts, withDeck, deckPlace, after, undoByte, turnedUp, before}
-use Rattle.play.specs.declared.Made.{Made}
-use Rattle.play.specs.Made.{made, turnedAt}
+use Rattle.play_moves.specs.declared.Made.{Made}
+use Rattle.play_moves.specs.Made.{made, turnedAt}
 
 module _ (p : Position) (c : ℕ) where
   pub made-deck-stack : record { position = raised (drawn p c) c; byte = p .offset; turned = Nothing } ≡ made p 0 c

@@ -1,12 +1,12 @@
--- `play::unmake::has_way` meets its contract.
+-- `play_moves::unmake::has_way` meets its contract.
 -- Assumes nothing.
 use mathlib.Core.Path.{sym}
 use borrow.Author.Tests.{eq-eqb, ne-eqb}
-use Rattle.play.specs.Made.{leftPile, hasWay}
-use Rattle.play.proofs.Known.{counts-fit}
-use Rattle.play.proofs.LastKind.{none, way-last}
-use Rattle.play.proofs.unmake.has_way.Statement.{statement}
-use Rattle.play.proofs.unmake.has_way.Tie as tie
+use Rattle.play_moves.specs.Made.{leftPile, hasWay}
+use Rattle.play_moves.proofs.Known.{counts-fit}
+use Rattle.play_moves.proofs.LastKind.{none, way-last}
+use Rattle.play_moves.proofs.unmake.has_way.Statement.{statement}
+use Rattle.play_moves.proofs.unmake.has_way.Tie as tie
 
 returns : tie.Need-returns
 unfolding hasWay

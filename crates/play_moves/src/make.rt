@@ -3,7 +3,7 @@ ghost use mathlib.Core.Path.{_≡_};
 ghost use lib.Dec.{T};
 ghost use Rattle.rules.specs.Proper.{proper};
 ghost use Rattle.rules.specs.Legal.{legal};
-ghost use Rattle.play.specs.Made.{made};
+ghost use Rattle.play_moves.specs.Made.{made};
 use crate::Made;
 use crate::N_PILES;
 use crate::parts::head_pile;

@@ -1,8 +1,8 @@
--- `play::parts::head_pile` meets its contract.
+-- `play_moves::parts::head_pile` meets its contract.
 -- Assumes nothing.
 use borrow.Author.Needs.{needs}
-use Rattle.play.proofs.parts.head_pile.Statement.{statement}
-use Rattle.play.proofs.parts.head_pile.Tie as tie
+use Rattle.play_moves.proofs.parts.head_pile.Statement.{statement}
+use Rattle.play_moves.proofs.parts.head_pile.Tie as tie
 
 find-head-requires : tie.Need-find-head-requires
 find-head-requires c κs = search needs

@@ -1,10 +1,10 @@
--- `play::parts::seen` meets its contract.
+-- `play_moves::parts::seen` meets its contract.
 -- Assumes nothing.
 use borrow.Author.Needs.{needs}
 use native.Mathlib.Omega.{arith}
-use Rattle.play.proofs.Sight.{with-is}
-use Rattle.play.proofs.parts.seen.Statement.{statement}
-use Rattle.play.proofs.parts.seen.Tie as tie
+use Rattle.play_moves.proofs.Sight.{with-is}
+use Rattle.play_moves.proofs.parts.seen.Statement.{statement}
+use Rattle.play_moves.proofs.parts.seen.Tie as tie
 
 mask-requires : tie.Need-mask-requires
 mask-requires c κs = search needs

@@ -12,11 +12,11 @@ use Rattle.rules.specs.Hidden.{headPile, barePile}
 use Rattle.rules.specs.Legal.{legal}
 use Rattle.rules.specs.Proper.{proper}
 use Rattle.rules.specs.Play.{raised, lowered, shown, hidden, drawn, putBack, turnedBack, withVisible, withHeights, withDeck, before}
-use Rattle.play.specs.declared.Made.{Made}
-use Rattle.play.specs.Made.{made, turnedAt, hasWay}
-use Rattle.play.proofs.Known.{head-at, no-head, is-head, reveal-head, bare-at, pile-stack-way, reveal-way}
-use Rattle.play.proofs.EachKind.{made-deck-stack, made-deck-pile, made-stack-pile, made-reveal, made-head-up, made-card-up}
-use Rattle.play.proofs.LastKind.{Last, legal-last, made-last, way-last, before-last}
+use Rattle.play_moves.specs.declared.Made.{Made}
+use Rattle.play_moves.specs.Made.{made, turnedAt, hasWay}
+use Rattle.play_moves.proofs.Known.{head-at, no-head, is-head, reveal-head, bare-at, pile-stack-way, reveal-way}
+use Rattle.play_moves.proofs.EachKind.{made-deck-stack, made-deck-pile, made-stack-pile, made-reveal, made-head-up, made-card-up}
+use Rattle.play_moves.proofs.LastKind.{Last, legal-last, made-last, way-last, before-last}
 
 -- q is p with its deal and counts. The end is m: what comes of turning the pile, or what is there where no pile is to be turned
 pub record Halfway {A : Type 0} (p q : Position) (pile : ℕ) (turns stays m : A) : Type 0 where

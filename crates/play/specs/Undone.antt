@@ -1,34 +1,15 @@
--- What making a move and going back over one give, and when going back is possible at all.
-use mathlib.Core.Bool.{Bool, true, false, _&&_, _||_, cond}
-use mathlib.Core.Path.{_≡_}
+-- When two positions are the same, and what going back over an entry gives.
+use mathlib.Core.Bool.{Bool, true, false, _&&_, cond}
 use Prim.Native.Nat.{ℕ}
-use lib.Dec.{eqb, ltb}
+use lib.Dec.{eqb}
 use lib.ListN.{take}
 use Rattle.rules.specs.declared.Position.{Position}
 use Rattle.rules.specs.Bits.{sameList}
-use Rattle.rules.specs.Hidden.{barePile}
-use Rattle.rules.specs.Legal.{legal, byKind}
-use Rattle.rules.specs.Play.{turned, under, after, undoByte, turnedUp}
+use Rattle.rules.specs.Legal.{legal}
+use Rattle.rules.specs.Play.{after, undoByte}
 use Rattle.rules.specs.Proper.{proper}
 use Rattle.rules.specs.History.{samePosition, stepBack, undoable}
-use Rattle.play.specs.declared.Made.{Made}
 use Rattle.play.specs.declared.Back.{Back}
-
--- a move's position, byte and turned-up card
-unfoldable pub made : Position → ℕ → ℕ → Made
-made p kind c = record { position = after p kind c; byte = undoByte p kind c; turned = turnedUp p kind c }
-
--- the pile's head has left it: what that turned up, and the byte that is written for it
-unfoldable pub turnedAt : Position → ℕ → ℕ → Made
-turnedAt p i byte = record { position = turned p i; byte = byte; turned = under p i }
-
--- a head left some pile just above its locked cards
-unfoldable pub leftPile : Position → ℕ → Bool
-leftPile p c = ltb (barePile (p .deal) (p .counts) c) 7
-
--- there is a place for the card to go back to: one more card fits into the deck; the pile that a head left
-unfoldable pub hasWay : Position → ℕ → ℕ → ℕ → Bool
-hasWay p byte kind c = byKind kind (ltb (p .left) 24) (eqb byte 0 || leftPile p c) (ltb (p .left) 24) true (leftPile p c)
 
 -- the cards left are the same; two positions of one deal are the same
 unfoldable pub sameDeck : Position → Position → Bool
