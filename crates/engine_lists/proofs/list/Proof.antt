@@ -1,4 +1,4 @@
--- `engine::list` meets its contract.
+-- `engine_lists::list` meets its contract.
 -- Assumes nothing.
 use borrow.Author.Needs.{needs}
 use mathlib.Core.Path.{_≡_, refl, sym, ap, ap₂, _∙_}
@@ -12,8 +12,8 @@ use Rattle.rules.specs.declared.Listed.{Listed}
 use mathlib.Core.Bool.{Bool}
 use Rattle.rules.specs.Legal.{listing}
 use Rattle.rules.specs.Answers.{accepted, masksFor, listingRefusal, listingAnswer, listingInto, listingFront}
-use Rattle.engine.proofs.list.Statement.{statement}
-use Rattle.engine.proofs.list.Tie as tie
+use Rattle.engine_lists.proofs.list.Statement.{statement}
+use Rattle.engine_lists.proofs.list.Tie as tie
 
 -- as many moves are counted as stand in front
 counted : (r : ℕ) (l : List ℕ) → accepted r (length l) 0 ≡ length (accepted r l [])

@@ -1,4 +1,4 @@
--- `engine::undo_move` meets its contract.
+-- `engine_history::undo_move` meets its contract.
 -- Assumes nothing.
 use borrow.Author.Needs.{needs}
 use borrow.Author.Tests.{le-ltb, lt-ltb, eq-eqb, ne-eqb}
@@ -15,9 +15,9 @@ use Rattle.rules.specs.Answers.{undoAnswer, undoRefusal, lastEntry}
 use Rattle.play.specs.declared.Back.{Back}
 use Rattle.play.proofs.Answered.{denied, granted}
 use Rattle.play.proofs.Ways.{possible-is, position-is}
-use Rattle.engine.proofs.Judged.{is-wrong, is-right}
-use Rattle.engine.proofs.history.undo_move.Statement.{statement}
-use Rattle.engine.proofs.history.undo_move.Tie as tie
+use Rattle.proper.proofs.Judged.{is-wrong, is-right}
+use Rattle.engine_history.proofs.undo_move.Statement.{statement}
+use Rattle.engine_history.proofs.undo_move.Tie as tie
 
 right : (c : tie.Else1) → proper (c .before .before .before .args .p) ≡ true
 right c = is-right (c .before .before .before .args .p) (c .before .is-proper .ensures) (c .if1 .left)

@@ -1,4 +1,4 @@
-// The calls that take a game on and back: a move and an undo, over a lent history and a count.
+// The public calls that take a game on and back: a move and an undo, over a lent history and a count. Crate engine has them by these names.
 ghost use mathlib.Core.Path.{_≡_};
 ghost use Rattle.rules.specs.declared.TurnedUp.the-variants.{Nothing};
 ghost use Rattle.rules.specs.Answers.{moveAnswer, moveHistory, undoAnswer};
@@ -6,6 +6,14 @@ use rules::Moved;
 use rules::Position;
 use rules::TurnedUp;
 use rules::Undone;
+
+// No refusal.
+const ACCEPTED: u8 = 0;
+
+// The highest kind and the highest card.
+const LAST_KIND: u8 = moves::REVEAL;
+
+const LAST_CARD: u8 = card::N_CARDS - 1;
 
 // A refused move: the given position and count.
 fn no_move(refusal: u8, p: Position, count: usize) -> Moved
@@ -30,10 +38,10 @@ pub fn do_move(p: Position, history: &mut [u16], count: usize, kind: u8, card: u
     if history.len() < count {
         return no_move(rules::WRONG_COUNT, p, count);
     }
-    if kind > crate::LAST_KIND {
+    if kind > LAST_KIND {
         return no_move(rules::NO_MOVE, p, count);
     }
-    if card > crate::LAST_CARD {
+    if card > LAST_CARD {
         return no_move(rules::NO_MOVE, p, count);
     }
     if !state::is_valid_move(p, kind, card) {
@@ -48,7 +56,7 @@ pub fn do_move(p: Position, history: &mut [u16], count: usize, kind: u8, card: u
     let after = made.position;
     let turned = made.turned;
     Moved {
-        refusal: crate::ACCEPTED,
+        refusal: ACCEPTED,
         position: after,
         count: next,
         byte: made.byte,
@@ -85,7 +93,7 @@ pub fn undo_move(p: Position, history: &[u16], count: usize) -> Undone
     }
     let before = back.position;
     Undone {
-        refusal: crate::ACCEPTED,
+        refusal: ACCEPTED,
         position: before,
         count: count - 1,
     }

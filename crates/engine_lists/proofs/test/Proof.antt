@@ -1,13 +1,13 @@
--- `engine::test` meets its contract.
+-- `engine_lists::test` meets its contract.
 -- Assumes nothing.
 use borrow.Author.Needs.{needs}
 use borrow.Author.Tests.{le-leb, lt-leb}
 use native.Mathlib.Omega.{arith}
 use Rattle.rules.specs.History.{isKindAndCard}
 use Rattle.rules.specs.Answers.{testAnswer, testRefusal, told}
-use Rattle.engine.proofs.Judged.{is-wrong, is-right, is-proper}
-use Rattle.engine.proofs.test.Statement.{statement}
-use Rattle.engine.proofs.test.Tie as tie
+use Rattle.proper.proofs.Judged.{is-wrong, is-right, is-proper}
+use Rattle.engine_lists.proofs.test.Statement.{statement}
+use Rattle.engine_lists.proofs.test.Tie as tie
 
 is-proper-requires : tie.Need-is-proper-requires
 is-proper-requires c κs = search needs

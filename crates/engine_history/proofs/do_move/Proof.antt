@@ -1,4 +1,4 @@
--- `engine::do_move` meets its contract.
+-- `engine_history::do_move` meets its contract.
 -- Assumes nothing.
 use borrow.Author.Needs.{needs}
 use borrow.Author.Tests.{le-ltb, lt-ltb, le-leb, lt-leb, eq-eqb, ne-eqb}
@@ -17,9 +17,9 @@ use Rattle.laws.proofs.EntryFits.{byte-fits}
 use Rattle.play_moves.specs.declared.Made.{Made}
 use Rattle.play_moves.specs.Made.{made}
 use Rattle.play.proofs.Answered.{denied, granted}
-use Rattle.engine.proofs.Judged.{is-wrong, is-right, is-proper}
-use Rattle.engine.proofs.history.do_move.Statement.{statement}
-use Rattle.engine.proofs.history.do_move.Tie as tie
+use Rattle.proper.proofs.Judged.{is-wrong, is-right, is-proper}
+use Rattle.engine_history.proofs.do_move.Statement.{statement}
+use Rattle.engine_history.proofs.do_move.Tie as tie
 
 right : (c : tie.Else1) → proper (c .before .before .before .args .p) ≡ true
 right c = is-right (c .before .before .before .args .p) (c .before .is-proper .ensures) (c .if1 .left)

@@ -1,10 +1,10 @@
--- `engine::masks` meets its contract.
+-- `engine_lists::masks` meets its contract.
 -- Assumes nothing.
 use borrow.Author.Needs.{needs}
 use Rattle.rules.specs.Answers.{masksAnswer, improper}
-use Rattle.engine.proofs.Judged.{is-wrong, is-right, is-proper}
-use Rattle.engine.proofs.masks.Statement.{statement}
-use Rattle.engine.proofs.masks.Tie as tie
+use Rattle.proper.proofs.Judged.{is-wrong, is-right, is-proper}
+use Rattle.engine_lists.proofs.masks.Statement.{statement}
+use Rattle.engine_lists.proofs.masks.Tie as tie
 
 no-masks-requires : tie.Need-no-masks-requires
 no-masks-requires c κs = search needs

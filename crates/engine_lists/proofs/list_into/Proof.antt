@@ -1,4 +1,4 @@
--- `engine::list_into` meets its contract.
+-- `engine_lists::list_into` meets its contract.
 -- Assumes nothing.
 use borrow.Author.Needs.{needs}
 use borrow.Author.Tests.{le-ltb, lt-ltb}
@@ -10,10 +10,10 @@ use lib.ListN.{length, drop}
 use Rattle.rules.specs.Moves.{fitting, listedOver}
 use Rattle.rules.specs.Answers.{listingAnswer, listingRefusal, listingInto, listingFront}
 use Rattle.rules.proofs.Shape.{shape}
-use Rattle.engine.proofs.Judged.{is-wrong, is-right, is-proper}
-use Rattle.engine.proofs.HintCount.{hint-cards, hint-count, hint-fits}
-use Rattle.engine.proofs.list_into.Statement.{statement}
-use Rattle.engine.proofs.list_into.Tie as tie
+use Rattle.proper.proofs.Judged.{is-wrong, is-right, is-proper}
+use Rattle.engine_lists.proofs.HintCount.{hint-cards, hint-count, hint-fits}
+use Rattle.engine_lists.proofs.list_into.Statement.{statement}
+use Rattle.engine_lists.proofs.list_into.Tie as tie
 
 is-proper-requires : tie.Need-is-proper-requires
 is-proper-requires c κs = search needs

@@ -1,13 +1,13 @@
--- `engine::list_count` meets its contract.
+-- `engine_lists::list_count` meets its contract.
 -- Assumes nothing.
 use borrow.Author.Needs.{needs}
 use borrow.Author.Tests.{le-ltb, lt-ltb}
 use Rattle.rules.specs.Answers.{listingAnswer, listingRefusal}
 use Rattle.rules.proofs.Shape.{shape}
-use Rattle.engine.proofs.Judged.{is-wrong, is-right, is-proper}
-use Rattle.engine.proofs.HintCount.{hint-count}
-use Rattle.engine.proofs.list_count.Statement.{statement}
-use Rattle.engine.proofs.list_count.Tie as tie
+use Rattle.proper.proofs.Judged.{is-wrong, is-right, is-proper}
+use Rattle.engine_lists.proofs.HintCount.{hint-count}
+use Rattle.engine_lists.proofs.list_count.Statement.{statement}
+use Rattle.engine_lists.proofs.list_count.Tie as tie
 
 is-proper-requires : tie.Need-is-proper-requires
 is-proper-requires c κs = search needs
