@@ -25,7 +25,7 @@ use Rattle.proper.proofs.Judge.{pairs-were, seven-was}
 use Rattle.proper.proofs.Laws.{ones-mask}
 use Rattle.proper.proofs.Tricks.{empty-mask}
 use Rattle.code.specs.declared.Sets.{Sets}
-use Rattle.code.specs.Starts.{setsOf, worked, arrangeRefusal}
+use Rattle.code.specs.Resuming.{setsOf, worked, arrangeRefusal}
 
 pub all-not : (n : ℕ) (f : ℕ → Bool) → allOf n (λ k. not (f k)) ≡ not (anyOf n f)
 unfolding allOf anyOf

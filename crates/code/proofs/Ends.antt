@@ -12,7 +12,7 @@ use Rattle.rules.specs.Refusals.{_refuses_else_, accepted, wrongHeight, wrongPi
 use Rattle.rules.specs.Answers.{dealRefusal, offsetWrong, resumeRefusal}
 use Rattle.rules.proofs.Searches.{or-left, or-right}
 use Rattle.rules.proofs.Refusing.{deal-first}
-use Rattle.code.specs.Starts.{arrangeRefusal}
+use Rattle.code.specs.Resuming.{arrangeRefusal}
 
 -- the offset's test
 module _ (step x : ℕ) where

@@ -25,7 +25,7 @@ use Rattle.rules.proofs.PileField.{table-ext, field-low}
 use Rattle.rules.proofs.Digits.{below4, has-bit, stored-fits, code-fits}
 use Rattle.rules.proofs.DealLaw.{cards-low}
 use Rattle.proper.specs.Masks.{stacked}
-use Rattle.code.specs.Starts.{Ranged}
+use Rattle.code.specs.Resuming.{Ranged}
 use Rattle.code.proofs.Arranging.{all-not}
 
 -- ---- put together: each field stands above the bits of those before it

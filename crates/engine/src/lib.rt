@@ -1,23 +1,21 @@
-// The public calls. Each judges its own input, asks nothing of its caller, and refuses by document 01's numbers, in its order.
+// The public calls, all of them, by these names: those on a history stand in engine_history, those on the moves of a position in engine_lists, the others here.
+// Each judges its own input, asks nothing of its caller, and refuses by document 01's numbers, in its order.
 // A refused call hands back the position it was given and leaves lent memory as it was.
 ghost use mathlib.Core.Path.{_≡_};
 ghost use mathlib.Core.Bool.{false};
 ghost use lib.ListN.{length};
-ghost use denote.Ref.{ptr};
-ghost use Rattle.rules.specs.Play.{slots};
-ghost use Rattle.rules.specs.Answers.{dealAnswer, resumeAnswer, saveAnswer, ladderAnswer, noMasks, masksAnswer, testAnswer, listingAnswer, listingFront, listingInto, winAnswer, sureWinAnswer, heightsAnswer, deckAnswer, findAnswer, offsetAnswer, pilesAnswer, pilesBuffer};
-
-mod history;
-
-pub use history::do_move;
-pub use history::undo_move;
+ghost use Rattle.rules.specs.Answers.{dealAnswer, resumeAnswer, saveAnswer, ladderAnswer, winAnswer, sureWinAnswer, heightsAnswer, deckAnswer, findAnswer, offsetAnswer, pilesAnswer, pilesBuffer};
+pub use engine_history::do_move;
+pub use engine_history::undo_move;
+pub use engine_lists::list;
+pub use engine_lists::list_count;
+pub use engine_lists::list_into;
+pub use engine_lists::masks;
+pub use engine_lists::test;
 use rules::Compared;
 use rules::DeckView;
 use rules::Heights;
-use rules::Listed;
 use rules::Located;
-use rules::Masked;
-use rules::Masks;
 use rules::Offset;
 use rules::Piled;
 use rules::Position;
@@ -31,9 +29,7 @@ pub const PILE_BYTES: usize = card::N_PILES as usize * card::N_RANKS as usize;
 // No refusal.
 const ACCEPTED: u8 = 0;
 
-// The highest kind and the highest card.
-const LAST_KIND: u8 = moves::REVEAL;
-
+// The highest card.
 const LAST_CARD: u8 = card::N_CARDS - 1;
 
 // A fresh deal of 52 cards. Refused, the blank position.
@@ -65,132 +61,6 @@ pub fn save(p: Position) -> Saved
         refusal: ACCEPTED,
         position: p,
         code: code::encode(p),
-    }
-}
-
-// No masks, for a refused call.
-fn no_masks() -> Masks
-    ensures { λ r. ⌜ r ≡ noMasks ⌝ }
-{
-    Masks {
-        reveal: 0,
-        pile_stack: 0,
-        deck_pile: 0,
-        deck_stack: 0,
-        stack_pile: 0,
-    }
-}
-
-// The masks of the moves.
-pub fn masks(p: Position, pruned: bool) -> Masked
-    ensures { λ r. ⌜ r ≡ masksAnswer pruned p ⌝ }
-{
-    let none = no_masks();
-    if !proper::is_proper(p) {
-        return Masked {
-            refusal: rules::NOT_PROPER,
-            position: p,
-            masks: none,
-        };
-    }
-    let found = prune::hints(p, pruned);
-    Masked {
-        refusal: ACCEPTED,
-        position: p,
-        masks: found,
-    }
-}
-
-// Whether a move is legal.
-pub fn test(p: Position, kind: u8, card: u8) -> Told
-    ensures { λ r. ⌜ r ≡ testAnswer p kind card ⌝ }
-{
-    if !proper::is_proper(p) {
-        return Told {
-            refusal: rules::NOT_PROPER,
-            position: p,
-            yes: false,
-        };
-    }
-    if kind > LAST_KIND {
-        return Told {
-            refusal: rules::NO_MOVE,
-            position: p,
-            yes: false,
-        };
-    }
-    if card > LAST_CARD {
-        return Told {
-            refusal: rules::NO_MOVE,
-            position: p,
-            yes: false,
-        };
-    }
-    Told {
-        refusal: ACCEPTED,
-        position: p,
-        yes: state::is_valid_move(p, kind, card),
-    }
-}
-
-// Lists the moves into the front of out: the refusal and how many. Later slots stay.
-pub fn list_into(p: Position, pruned: bool, out: &mut [u16]) -> Listed
-    ensures { λ r. ⌜ (r ≡ listingAnswer pruned p (length (now (out .entry)))) × (now (out .exit) ≡ listingInto pruned p (now (out .entry))) ⌝ }
-{
-    if !proper::is_proper(p) {
-        return Listed {
-            refusal: rules::NOT_PROPER,
-            position: p,
-            count: 0,
-        };
-    }
-    let m = prune::hints(p, pruned);
-    if out.len() < moves::len(m) as usize {
-        return Listed {
-            refusal: rules::TOO_SHORT,
-            position: p,
-            count: 0,
-        };
-    }
-    let n = moves::list_into(m, out);
-    Listed {
-        refusal: ACCEPTED,
-        position: p,
-        count: n,
-    }
-}
-
-// Lists the moves, and hands the written front of out back: nothing where it is refused. `list_count` gives the refusal's number.
-pub fn list<'a>(p: Position, pruned: bool, out: &'a mut [u16]) -> &'a mut [u16]
-    ensures { λ r. ⌜ (now r ≡ listingFront pruned p (now (out .entry))) × (ptr r ≡ ptr (out .entry)) ⌝ }
-{
-    let n = list_into(p, pruned, out).count;
-    &mut out[..n]
-}
-
-// What `list` would answer with a buffer of so many slots. Writes nothing.
-pub fn list_count(p: Position, pruned: bool, room: usize) -> Listed
-    ensures { λ r. ⌜ r ≡ listingAnswer pruned p room ⌝ }
-{
-    if !proper::is_proper(p) {
-        return Listed {
-            refusal: rules::NOT_PROPER,
-            position: p,
-            count: 0,
-        };
-    }
-    let n = moves::len(prune::hints(p, pruned)) as usize;
-    if room < n {
-        return Listed {
-            refusal: rules::TOO_SHORT,
-            position: p,
-            count: 0,
-        };
-    }
-    Listed {
-        refusal: ACCEPTED,
-        position: p,
-        count: n,
     }
 }
 

@@ -5,7 +5,7 @@ ghost use lib.ListN.{length};
 ghost use Rattle.rules.specs.Proper.{proper};
 ghost use Rattle.rules.specs.Legal.{legal};
 ghost use Rattle.rules.specs.Moves.{CardMasks};
-ghost use Rattle.play.specs.Made.{hasWay};
+ghost use Rattle.play_moves.specs.Made.{hasWay};
 use rules::Masks;
 use rules::Position;
 use rules::Started;

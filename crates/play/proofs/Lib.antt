@@ -1,9 +1,3 @@
-pub mod Sight
 pub mod Ways
-pub mod Known
-pub mod EachKind
-pub mod LastKind
-pub mod Written
-pub mod Halfway
 pub mod Same
 pub mod Answered

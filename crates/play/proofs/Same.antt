@@ -12,7 +12,7 @@ use Rattle.rules.specs.declared.Position.{Position}
 use Rattle.rules.specs.Bits.{sameList}
 use Rattle.rules.specs.History.{samePosition}
 use Rattle.rules.proofs.Searches.{same-list, list-same, is-false}
-use Rattle.play.specs.Made.{sameDeck, sameInDeal}
+use Rattle.play.specs.Undone.{sameDeck, sameInDeal}
 
 module _ (a b : List ℕ) (n : ℕ) (la : n ≤ length a) (lb : n ≤ length b) where
   pub bytes-same : ((k : ℕ) → k < n → getD a k 0 ≡ getD b k 0) → sameList (take n a) (take n b) ≡ true

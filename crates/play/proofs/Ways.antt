@@ -23,8 +23,9 @@ use Rattle.laws.proofs.Piles.{pileOf-deal}
 use Rattle.rules.proofs.Placed.{HeadOf, head-of}
 use Rattle.laws.proofs.TurnedBack.{back-stays}
 use Rattle.laws.proofs.UndoTest.{passes}
+use Rattle.play_moves.specs.Made.{leftPile, hasWay}
 use Rattle.play.specs.declared.Back.{Back}
-use Rattle.play.specs.Made.{leftPile, hasWay, leadsTo, undone}
+use Rattle.play.specs.Undone.{leadsTo, undone}
 
 -- ---- a head that is back on its pile had left it
 

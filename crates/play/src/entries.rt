@@ -6,13 +6,14 @@ ghost use lib.ListN.{length, take};
 ghost use Rattle.rules.specs.Bits.{sameList};
 ghost use Rattle.rules.specs.Proper.{proper};
 ghost use Rattle.rules.specs.History.{entry as entryOf};
-ghost use Rattle.play.specs.Made.{sameDeck, sameInDeal, leadsTo, undone};
+ghost use Rattle.play.specs.Undone.{sameDeck, sameInDeal, leadsTo, undone};
 use crate::Back;
-use crate::N_PILES;
-use crate::make::do_move;
-use crate::unmake::has_way;
-use crate::unmake::undo_move;
+use play_moves::do_move;
+use play_moves::has_way;
+use play_moves::undo_move;
 use rules::Position;
+
+const N_PILES: usize = card::N_PILES as usize;
 
 const N_FOUNDATIONS: usize = card::N_SUITS as usize;
 

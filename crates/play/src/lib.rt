@@ -1,27 +1,13 @@
-// Making a move and going back over one: the work behind the engine's move and undo.
+// Making a move and going back over one: the work behind the engine's move and undo. The moves themselves are play_moves', and stand here too by their names.
 mod entries;
-mod make;
-mod parts;
-mod unmake;
 
 pub use entries::entry;
 pub use entries::same_deal;
 pub use entries::undo;
-pub use make::do_move;
+pub use play_moves::Made;
+pub use play_moves::do_move;
+pub use play_moves::undo_move;
 use rules::Position;
-use rules::TurnedUp;
-pub use unmake::undo_move;
-
-const N_PILES: usize = card::N_PILES as usize;
-
-const N_DECK_CARDS: u8 = card::N_DECK_CARDS;
-
-// What a move leads to: the position, the byte that undo needs, and what the move turned up.
-pub struct Made {
-    pub position: Position,
-    pub byte: u8,
-    pub turned: TurnedUp,
-}
 
 // What going back over an entry leads to. Where that is impossible the position is the given one.
 pub struct Back {

@@ -15,8 +15,8 @@ use Rattle.rules.specs.Proper.{pairRule, sevenRule}
 use Rattle.rules.specs.Play.{withVisible}
 use Rattle.rules.specs.Answers.{overlaps}
 use Rattle.rules.proofs.Searches.{and-both, count-le}
-use Rattle.code.specs.Starts.{worked, arrangeRefusal, arrangeAnswer}
-use Rattle.code.proofs.Answered.{is-refused, is-started}
+use Rattle.code.specs.Resuming.{worked, arrangeRefusal, arrangeAnswer}
+use Rattle.code_deal.proofs.Answered.{is-refused, is-started}
 use Rattle.code.proofs.Arranging.{freeOf, visible-is, meets-is, free-is, pairs-is, seven-is, arrange-tests}
 use Rattle.code.proofs.arranged.Statement.{statement}
 use Rattle.code.proofs.arranged.Tie as tie

@@ -5,7 +5,7 @@ use Prim.Native.Nat.{_/_, _^_}
 use native.Mathlib.Omega.{arith}
 use lib.Bits.{and-le-r, and-mask}
 use Rattle.rules.specs.Code.{codePiles, codeOffset}
-use Rattle.code.specs.Starts.{fieldsOf}
+use Rattle.code.specs.Resuming.{fieldsOf}
 use Rattle.code.proofs.fields_of.Statement.{statement}
 use Rattle.code.proofs.fields_of.Tie as tie
 

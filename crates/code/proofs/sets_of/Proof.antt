@@ -9,7 +9,7 @@ use Rattle.rules.proofs.Shape.{shape}
 use Rattle.rules.specs.Hidden.{buriedIn, headIn}
 use Rattle.proper.specs.Masks.{stacked}
 use Rattle.proper.proofs.Sets.{cards-are}
-use Rattle.code.specs.Starts.{setsOf}
+use Rattle.code.specs.Resuming.{setsOf}
 use Rattle.code.proofs.sets_of.Statement.{statement}
 use Rattle.code.proofs.sets_of.Tie as tie
 

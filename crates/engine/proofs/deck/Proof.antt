@@ -4,7 +4,7 @@ use borrow.Author.Needs.{needs}
 use native.Mathlib.Omega.{arith}
 use Rattle.rules.specs.Answers.{deckAnswer, improper}
 use Rattle.rules.proofs.Facts.{facts}
-use Rattle.engine.proofs.Judged.{is-wrong, is-right, is-proper}
+use Rattle.proper.proofs.Judged.{is-wrong, is-right, is-proper}
 use Rattle.engine.proofs.deck.Statement.{statement}
 use Rattle.engine.proofs.deck.Tie as tie
 

@@ -3,7 +3,7 @@
 use borrow.Author.Needs.{needs}
 use borrow.Author.Tests.{le-ltb, lt-ltb}
 use Rattle.rules.specs.Answers.{findAnswer, findRefusal}
-use Rattle.engine.proofs.Judged.{is-wrong, is-right, is-proper}
+use Rattle.proper.proofs.Judged.{is-wrong, is-right, is-proper}
 use Rattle.engine.proofs.find.Statement.{statement}
 use Rattle.engine.proofs.find.Tie as tie
 

@@ -2,7 +2,7 @@
 -- Assumes nothing.
 use borrow.Author.Needs.{needs}
 use Rattle.rules.specs.Answers.{heightsAnswer, improper}
-use Rattle.engine.proofs.Judged.{is-wrong, is-right}
+use Rattle.proper.proofs.Judged.{is-wrong, is-right}
 use Rattle.engine.proofs.heights.Statement.{statement}
 use Rattle.engine.proofs.heights.Tie as tie
 

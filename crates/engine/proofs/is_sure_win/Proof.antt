@@ -3,7 +3,7 @@
 use borrow.Author.Needs.{needs}
 use borrow.Author.Tests.{le-leb, lt-leb}
 use Rattle.rules.specs.Answers.{sureWinAnswer, improper, told, isSureWin}
-use Rattle.engine.proofs.Judged.{is-wrong, is-right}
+use Rattle.proper.proofs.Judged.{is-wrong, is-right}
 use Rattle.engine.proofs.is_sure_win.Statement.{statement}
 use Rattle.engine.proofs.is_sure_win.Tie as tie
 

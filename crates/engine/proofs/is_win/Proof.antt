@@ -2,7 +2,7 @@
 -- Assumes nothing.
 use borrow.Author.Needs.{needs}
 use Rattle.rules.specs.Answers.{winAnswer, improper, told, isWin}
-use Rattle.engine.proofs.Judged.{is-wrong, is-right}
+use Rattle.proper.proofs.Judged.{is-wrong, is-right}
 use Rattle.engine.proofs.is_win.Statement.{statement}
 use Rattle.engine.proofs.is_win.Tie as tie
 

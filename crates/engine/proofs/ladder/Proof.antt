@@ -9,7 +9,7 @@ use Rattle.rules.specs.Bits.{sameList}
 use Rattle.rules.specs.Proper.{proper}
 use Rattle.rules.specs.Code.{ladderSame}
 use Rattle.rules.specs.Answers.{ladderAnswer, ladderRefusal}
-use Rattle.engine.proofs.Judged.{is-wrong, is-right, is-proper}
+use Rattle.proper.proofs.Judged.{is-wrong, is-right, is-proper}
 use Rattle.engine.proofs.ladder.Statement.{statement}
 use Rattle.engine.proofs.ladder.Tie as tie
 

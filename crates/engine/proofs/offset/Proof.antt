@@ -3,7 +3,7 @@
 use borrow.Author.Needs.{needs}
 use Rattle.rules.specs.Answers.{offsetAnswer, improper}
 use Rattle.rules.proofs.Facts.{facts}
-use Rattle.engine.proofs.Judged.{is-wrong, is-right, is-proper}
+use Rattle.proper.proofs.Judged.{is-wrong, is-right, is-proper}
 use Rattle.engine.proofs.offset.Statement.{statement}
 use Rattle.engine.proofs.offset.Tie as tie
 

@@ -4,7 +4,7 @@ use borrow.Author.Needs.{needs}
 use borrow.Author.Tests.{le-ltb, lt-ltb}
 use mathlib.Core.Path.{refl}
 use Rattle.rules.specs.Answers.{pilesAnswer, pilesRefusal, pilesBuffer}
-use Rattle.engine.proofs.Judged.{is-wrong, is-right, is-proper}
+use Rattle.proper.proofs.Judged.{is-wrong, is-right, is-proper}
 use Rattle.engine.proofs.piles.Statement.{statement}
 use Rattle.engine.proofs.piles.Tie as tie
 

@@ -2,7 +2,7 @@
 -- Assumes nothing.
 use borrow.Author.Needs.{needs}
 use Rattle.rules.specs.Answers.{saveAnswer, improper}
-use Rattle.engine.proofs.Judged.{is-wrong, is-right, is-proper}
+use Rattle.proper.proofs.Judged.{is-wrong, is-right, is-proper}
 use Rattle.engine.proofs.save.Statement.{statement}
 use Rattle.engine.proofs.save.Tie as tie
 

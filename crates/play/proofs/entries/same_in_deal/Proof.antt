@@ -6,7 +6,7 @@ use mathlib.Core.Bool.{true}
 use lib.Dec.{eqb}
 use borrow.Author.Tests.{eq-eqb, ne-eqb}
 use Rattle.rules.specs.Bits.{sameList}
-use Rattle.play.specs.Made.{sameDeck, sameInDeal}
+use Rattle.play.specs.Undone.{sameDeck, sameInDeal}
 use Rattle.play.proofs.Answered.{denied, granted}
 use Rattle.play.proofs.entries.same_in_deal.Statement.{statement}
 use Rattle.play.proofs.entries.same_in_deal.Tie as tie

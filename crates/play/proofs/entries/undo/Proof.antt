@@ -11,7 +11,7 @@ use Rattle.rules.specs.declared.Position.{Position}
 use Rattle.rules.specs.History.{entryByte, entryKind, entryCard, isKindAndCard}
 use Rattle.rules.proofs.Shape.{shape}
 use Rattle.rules.proofs.UndoLaw.{kept-deal}
-use Rattle.play.specs.Made.{leadsTo}
+use Rattle.play.specs.Undone.{leadsTo}
 use Rattle.play.proofs.Answered.{denied, granted}
 use Rattle.play.proofs.Ways.{leads, no-way, not-move, not-led, led, none-is, some-is}
 use Rattle.play.proofs.entries.undo.Statement.{statement}

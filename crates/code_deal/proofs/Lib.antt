@@ -1,0 +1,4 @@
+pub mod Copies
+pub mod DealTest
+pub mod FreshMade
+pub mod Answered

@@ -1,0 +1,160 @@
+-- `engine_history::do_move` meets its contract.
+-- Assumes nothing.
+use borrow.Author.Needs.{needs}
+use borrow.Author.Tests.{le-ltb, lt-ltb, le-leb, lt-leb, eq-eqb, ne-eqb}
+use mathlib.Core.Bool.{true}
+use mathlib.Core.Path.{_≡_, refl, ap, _∙_}
+use Prim.Native.Nat.{_+_}
+use native.Mathlib.Omega.{arith}
+use lib.ListN.{set}
+use Rattle.bits.proofs.Tables.{true-T}
+use Rattle.rules.specs.declared.Moved.{Moved}
+use Rattle.rules.specs.Proper.{proper}
+use Rattle.rules.specs.Legal.{legal}
+use Rattle.rules.specs.History.{entry, isKindAndCard}
+use Rattle.rules.specs.Answers.{moveAnswer, moveRefusal, moveHistory}
+use Rattle.laws.proofs.EntryFits.{byte-fits}
+use Rattle.play_moves.specs.declared.Made.{Made}
+use Rattle.play_moves.specs.Made.{made}
+use Rattle.play.proofs.Answered.{denied, granted}
+use Rattle.proper.proofs.Judged.{is-wrong, is-right, is-proper}
+use Rattle.engine_history.proofs.do_move.Statement.{statement}
+use Rattle.engine_history.proofs.do_move.Tie as tie
+
+right : (c : tie.Else1) → proper (c .before .before .before .args .p) ≡ true
+right c = is-right (c .before .before .before .args .p) (c .before .is-proper .ensures) (c .if1 .left)
+
+is-proper-requires : tie.Need-is-proper-requires
+is-proper-requires c κs = search needs
+
+no-move-requires : tie.Need-no-move-requires
+no-move-requires c κs = search needs
+
+returns : tie.Need-returns
+unfolding moveAnswer moveHistory moveRefusal
+returns c =
+    let t = c .before in
+    rw (is-wrong (t .before .before .before .args .p) (t .before .is-proper .ensures) (t .if1 .taken)) (c .no-move .ensures, refl)
+
+no-move-requires-2 : tie.Need-no-move-requires-2
+no-move-requires-2 c κs = search needs
+
+returns-2 : tie.Need-returns-2
+unfolding moveAnswer moveHistory moveRefusal
+returns-2 c =
+    let t = c .before in
+    rw (right (t .before), lt-ltb _ _ (t .if2 .taken)) (c .no-move2 .ensures, refl)
+
+no-move-requires-3 : tie.Need-no-move-requires-3
+no-move-requires-3 c κs = search needs
+
+returns-3 : tie.Need-returns-3
+unfolding moveAnswer moveHistory moveRefusal isKindAndCard
+returns-3 c =
+    let t = c .before in
+    let e = t .before in
+    rw (right (e .before), le-ltb _ _ (e .if2 .left), lt-leb _ _ (t .if3 .taken)) (c .no-move3 .ensures, refl)
+
+no-move-requires-4 : tie.Need-no-move-requires-4
+no-move-requires-4 c κs = search needs
+
+returns-4 : tie.Need-returns-4
+unfolding moveAnswer moveHistory moveRefusal isKindAndCard
+returns-4 c =
+    let t = c .before in
+    let k = t .before in
+    let e = k .before in
+    rw (right (e .before), le-ltb _ _ (e .if2 .left), le-leb _ _ (k .if3 .left), lt-leb _ _ (t .if4 .taken)) (c .no-move4 .ensures, refl)
+
+is-valid-move-requires : tie.Need-is-valid-move-requires
+is-valid-move-requires c κs = (true-T _ (right (c .before .before .before)), omega arith, omega arith)
+
+no-move-requires-5 : tie.Need-no-move-requires-5
+no-move-requires-5 c κs = search needs
+
+returns-5 : tie.Need-returns-5
+unfolding moveAnswer moveHistory moveRefusal isKindAndCard
+returns-5 c =
+    let t = c .before in
+    let d = t .before .before in
+    let k = d .before in
+    let e = k .before in
+    rw (right (e .before), le-ltb _ _ (e .if2 .left), le-leb _ _ (k .if3 .left), le-leb _ _ (d .if4 .left), denied (t .before .is-valid-move .ensures) (t .if5 .taken)) (c .no-move5 .ensures, refl)
+
+no-move-requires-6 : tie.Need-no-move-requires-6
+no-move-requires-6 c κs = search needs
+
+returns-6 : tie.Need-returns-6
+unfolding moveAnswer moveHistory moveRefusal isKindAndCard
+returns-6 c =
+    let t = c .before in
+    let l = t .before in
+    let d = l .before .before in
+    let k = d .before in
+    let e = k .before in
+    rw (right (e .before), le-ltb _ _ (e .if2 .left), le-leb _ _ (k .if3 .left), le-leb _ _ (d .if4 .left), granted (l .before .is-valid-move .ensures) (l .if5 .left), eq-eqb _ _ (t .if6 .taken)) (c .no-move6 .ensures, refl)
+
+add-next : tie.Need-add-next
+add-next c = search needs
+
+do-move-requires : tie.Need-do-move-requires
+do-move-requires c κs =
+    let l = c .before in
+    (true-T _ (right (l .before .before .before .before .before)), true-T _ (granted (l .before .is-valid-move .ensures) (l .if5 .left)))
+
+entry-requires : tie.Need-entry-requires
+unfolding made
+entry-requires c κs =
+    let d = c .before .before .before .before in
+    let e = d .before .before .before in
+    let a = e .before .before .before .args in
+    (omega (arith, ap (λ (x : Made). x .byte) (c .do-move .ensures), byte-fits (a .p) (right e) (a .kind) (a .card)), omega (arith, d .before .if3 .left), omega (arith, d .if4 .left))
+
+mul-history : tie.Need-mul-history
+mul-history c = search needs
+
+slice-write-history : tie.Need-slice-write-history
+slice-write-history c = search needs
+
+same-length : tie.Need-same-length
+same-length c = search needs
+
+returns-7 : tie.Need-returns-7
+unfolding moveAnswer moveHistory moveRefusal isKindAndCard made
+returns-7 c =
+    let m = c .before .before in
+    let n = m .before in
+    let l = n .before in
+    let d = l .before .before in
+    let k = d .before in
+    let e = k .before in
+    let s = e .before .before .before .before in
+    let a = s .args in
+    rw (right (e .before), le-ltb _ _ (e .if2 .left), le-leb _ _ (k .if3 .left), le-leb _ _ (d .if4 .left), granted (l .before .is-valid-move .ensures) (l .if5 .left), ne-eqb _ _ (n .if6 .left))
+    (ap {B = Moved} (λ (x : Made). record { refusal = 0; position = x .position; count = a .count + 1; byte = x .byte; turned = x .turned }) (m .do-move .ensures), ap (set (a .history .now) (a .count)) (c .before .entry .ensures ∙ ap (λ (x : Made). entry (x .byte) (a .kind) (a .card)) (m .do-move .ensures)))
+
+pub do-move-spec : {M : Type 1} → statement M
+do-move-spec =
+    tie.close
+    (tie.spec
+    is-proper-requires
+    no-move-requires
+    returns
+    no-move-requires-2
+    returns-2
+    no-move-requires-3
+    returns-3
+    no-move-requires-4
+    returns-4
+    is-valid-move-requires
+    no-move-requires-5
+    returns-5
+    no-move-requires-6
+    returns-6
+    add-next
+    do-move-requires
+    entry-requires
+    mul-history
+    slice-write-history
+    same-length
+    returns-7)

@@ -1,0 +1,118 @@
+-- `engine_history::undo_move` meets its contract.
+-- Assumes nothing.
+use borrow.Author.Needs.{needs}
+use borrow.Author.Tests.{le-ltb, lt-ltb, eq-eqb, ne-eqb}
+use mathlib.Core.Bool.{true}
+use mathlib.Core.Path.{_≡_, refl, ap, _∙_}
+use Prim.Native.Nat.{_-_}
+use native.Mathlib.Omega.{arith}
+use Rattle.bits.proofs.Tables.{true-T}
+use Rattle.rules.specs.declared.Position.{Position}
+use Rattle.rules.specs.declared.Undone.{Undone}
+use Rattle.rules.specs.Proper.{proper}
+use Rattle.rules.specs.History.{undoable}
+use Rattle.rules.specs.Answers.{undoAnswer, undoRefusal, lastEntry}
+use Rattle.play.specs.declared.Back.{Back}
+use Rattle.play.proofs.Answered.{denied, granted}
+use Rattle.play.proofs.Ways.{possible-is, position-is}
+use Rattle.proper.proofs.Judged.{is-wrong, is-right}
+use Rattle.engine_history.proofs.undo_move.Statement.{statement}
+use Rattle.engine_history.proofs.undo_move.Tie as tie
+
+right : (c : tie.Else1) → proper (c .before .before .before .args .p) ≡ true
+right c = is-right (c .before .before .before .args .p) (c .before .is-proper .ensures) (c .if1 .left)
+
+-- what going back answered
+asked : (c : tie.After-undo) → c .undo .result .possible ≡ undoable (c .before .before .before .before .before .before .before .args .p) (lastEntry (c .before .before .before .before .before .before .before .args .history .now) (c .before .before .before .before .before .before .before .args .count))
+unfolding lastEntry
+asked c = ap (λ (x : Back). x .possible) (c .undo .ensures) ∙ possible-is (c .before .before .before .before .before .before .before .args .p) _
+
+is-proper-requires : tie.Need-is-proper-requires
+is-proper-requires c κs = search needs
+
+no-undo-requires : tie.Need-no-undo-requires
+no-undo-requires c κs = search needs
+
+returns : tie.Need-returns
+unfolding undoAnswer undoRefusal
+returns c =
+    let t = c .before in
+    rw (is-wrong (t .before .before .before .args .p) (t .before .is-proper .ensures) (t .if1 .taken)) (c .no-undo .ensures)
+
+no-undo-requires-2 : tie.Need-no-undo-requires-2
+no-undo-requires-2 c κs = search needs
+
+returns-2 : tie.Need-returns-2
+unfolding undoAnswer undoRefusal
+returns-2 c =
+    let t = c .before in
+    rw (right (t .before), lt-ltb _ _ (t .if2 .taken)) (c .no-undo2 .ensures)
+
+no-undo-requires-3 : tie.Need-no-undo-requires-3
+no-undo-requires-3 c κs = search needs
+
+returns-3 : tie.Need-returns-3
+unfolding undoAnswer undoRefusal
+returns-3 c =
+    let t = c .before in
+    let e = t .before in
+    rw (right (e .before), le-ltb _ _ (e .if2 .left), eq-eqb _ _ (t .if3 .taken)) (c .no-undo3 .ensures)
+
+sub-undo : tie.Need-sub-undo
+sub-undo c = search needs
+
+mul-undo : tie.Need-mul-undo
+mul-undo c = search needs
+
+shared-slice-read-undo : tie.Need-shared-slice-read-undo
+shared-slice-read-undo c = search needs
+
+undo-requires : tie.Need-undo-requires
+undo-requires c κs = true-T _ (right (c .before .before .before))
+
+no-undo-requires-4 : tie.Need-no-undo-requires-4
+no-undo-requires-4 c κs = search needs
+
+returns-4 : tie.Need-returns-4
+unfolding undoAnswer undoRefusal
+returns-4 c =
+    let t = c .before in
+    let u = t .before .before in
+    let z = u .before .before in
+    let e = z .before in
+    rw (right (e .before), le-ltb _ _ (e .if2 .left), ne-eqb _ _ (z .if3 .left), denied (asked u) (t .if4 .taken)) (c .no-undo4 .ensures)
+
+sub-t8 : tie.Need-sub-t8
+sub-t8 c = search needs
+
+returns-5 : tie.Need-returns-5
+unfolding undoAnswer undoRefusal lastEntry
+returns-5 c =
+    let t = c .before in
+    let u = t .before .before in
+    let z = u .before .before in
+    let e = z .before in
+    let a = e .before .before .before .before .args in
+    let h = granted (asked u) (t .if4 .left) in
+    rw (right (e .before), le-ltb _ _ (e .if2 .left), ne-eqb _ _ (z .if3 .left), h)
+    (ap {B = Undone} (λ (x : Position). record { refusal = 0; position = x; count = a .count - 1 }) (ap (λ (x : Back). x .position) (u .undo .ensures) ∙ position-is (a .p) _ h))
+
+pub undo-move-spec : {M : Type 1} → statement M
+undo-move-spec =
+    tie.close
+    (tie.spec
+    is-proper-requires
+    no-undo-requires
+    returns
+    no-undo-requires-2
+    returns-2
+    no-undo-requires-3
+    returns-3
+    sub-undo
+    mul-undo
+    shared-slice-read-undo
+    undo-requires
+    no-undo-requires-4
+    returns-4
+    sub-t8
+    returns-5)

@@ -1,0 +1,27 @@
+-- `engine_lists::masks` meets its contract.
+-- Assumes nothing.
+use borrow.Author.Needs.{needs}
+use Rattle.rules.specs.Answers.{masksAnswer, improper}
+use Rattle.proper.proofs.Judged.{is-wrong, is-right, is-proper}
+use Rattle.engine_lists.proofs.masks.Statement.{statement}
+use Rattle.engine_lists.proofs.masks.Tie as tie
+
+no-masks-requires : tie.Need-no-masks-requires
+no-masks-requires c κs = search needs
+
+is-proper-requires : tie.Need-is-proper-requires
+is-proper-requires c κs = search needs
+
+returns : tie.Need-returns
+unfolding masksAnswer improper
+returns c = rw (is-wrong (c .before .before .before .args .p) (c .before .is-proper .ensures) (c .if1 .taken), c .before .before .no-masks .ensures)
+
+hints-requires : tie.Need-hints-requires
+hints-requires c κs = is-proper (c .before .before .before .args .p) (c .before .is-proper .ensures) (c .if1 .left)
+
+returns-2 : tie.Need-returns-2
+unfolding masksAnswer improper
+returns-2 c = rw (is-right (c .before .before .before .before .args .p) (c .before .before .is-proper .ensures) (c .before .if1 .left), c .hints .ensures)
+
+pub masks-spec : {M : Type 1} → statement M
+masks-spec = tie.close (tie.spec no-masks-requires is-proper-requires returns hints-requires returns-2)
