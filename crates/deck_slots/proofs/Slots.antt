@@ -6,7 +6,7 @@ use Prim.Native.Nat.{ℕ, suc, _+_, _-_, _≤_, _<_}
 use native.Mathlib.Numerals.{add-one}
 use native.Mathlib.Omega.{arith}
 use lib.ListN.{length, getD, take, drop, set, replicate, length-append, length-drop, length-replicate, replicate-append-replicate}
-use lib.Seq.{length-take-le, take-all, take-suc, take-at, drop-at, set-at, split-at, getD-take, getD-drop, getD-append-add, take-take}
+use lib.Seq.{length-take-le, take-all, take-suc, take-at, drop-at, set-at, split-at, getD-take, take-take, take-add, drop-append-add, append-snoc, paste}
 use Rattle.rules.specs.Play.{slots, drawAt, pushAt}
 use Rattle.rules.proofs.SlotsLaw.{slots-front}
 
@@ -37,12 +37,36 @@ fill-end xs j e l =
     ap (λ (l : List ℕ). l ++ replicate (24 - j) 0) all
     ∙ sym (ap (λ (r : List ℕ). take 24 (xs ++ r)) rest ∙ ap (take 24) (sym (append-assoc xs (replicate (24 - j) 0) (replicate j 0))) ∙ take-at (xs ++ replicate (24 - j) 0) (replicate j 0) 24 long)
 
--- the first k cards of d alone, where xs begins with them
-pub fill-front : (d ys : List ℕ) (k : ℕ) → k ≤ length d → k ≤ 24 → slots (take k d) ≡ filled (take k d ++ ys) k
+pub padded : (xs : List ℕ) (j : ℕ) → length xs ≡ j → j ≤ 24 → slots xs ≡ xs ++ replicate (24 - j) 0
 unfolding filled
-fill-front d ys k l m =
-    let long : length (take k d) ≡ k = length-take-le k d l in
-    sym (fill-end (take k d) k long m) ∙ ap (λ (xs : List ℕ). xs ++ replicate (24 - k) 0) (take-all k (take k d) (omega arith) ∙ sym (take-at (take k d) ys k long))
+padded xs j e l = sym (fill-end xs j e l) ∙ ap (λ (l : List ℕ). l ++ replicate (24 - j) 0) (take-all j xs (omega arith))
+
+-- cards copied behind those in front of a deck's slots
+pub copied : (ys d : List ℕ) (from to n : ℕ) → length ys ≡ to → from + n ≤ length d → to + n ≤ 24 → paste (slots ys) to (drop from d) n ≡ slots (ys ++ take n (drop from d))
+copied ys d from to n e h m =
+    let zs : List ℕ = take n (drop from d) in
+    let end : List ℕ = replicate (24 - (to + n)) 0 in
+    let long : length zs ≡ n = length-take-le n (drop from d) (omega (arith, length-drop from d)) in
+    let count : 24 - to ≡ n + (24 - (to + n)) = omega arith in
+    let rest : _≡_ {A = List ℕ} (replicate (24 - to) 0) (replicate n 0 ++ end) = ap (λ (k : ℕ). replicate k 0) count ∙ sym (replicate-append-replicate n (24 - (to + n)) 0) in
+    let whole : slots ys ≡ ys ++ (replicate n 0 ++ end) = padded ys to e (omega arith) ∙ ap (λ (r : List ℕ). ys ++ r) rest in
+    let past : drop (to + n) (slots ys) ≡ end =
+    ap₂ (λ (k : ℕ) (s : List ℕ). drop (k + n) s) (sym e) whole ∙ drop-append-add ys (replicate n 0 ++ end) n ∙ drop-at (replicate n 0) end n (length-replicate {A = ℕ} n 0) in
+    ap₂ (λ (a b : List ℕ). a ++ zs ++ b) (ap (take to) whole ∙ take-at ys (replicate n 0 ++ end) to e) past ∙ sym (padded (ys ++ zs) (to + n) (length-append ys zs ∙ omega (arith, long)) m)
+
+-- a card put behind them
+pub put : (ys : List ℕ) (k c : ℕ) → length ys ≡ k → k < 24 → set (slots ys) k c ≡ slots (ys ++ (c ∷ []))
+put ys k c e l =
+    let end : List ℕ = replicate (24 - (k + 1)) 0 in
+    let more : 24 - k ≡ suc (24 - (k + 1)) = omega arith in
+    ap (λ (s : List ℕ). set s k c) (padded ys k e (omega arith) ∙ ap (λ (n : ℕ). ys ++ replicate n 0) more) ∙ set-at ys 0 end c k e ∙ sym (append-snoc ys c end)
+    ∙ sym (padded (ys ++ (c ∷ [])) (k + 1) (length-append ys (c ∷ []) ∙ omega (arith, e)) (omega arith))
+
+-- the cards from place k on, of the first n
+pub behind : (d : List ℕ) (k n : ℕ) → k ≤ n → n ≤ length d → take (n - k) (drop k d) ≡ drop k (take n d)
+behind d k n h l =
+    let both : n ≡ k + (n - k) = omega arith in
+    sym (ap (λ (m : ℕ). drop k (take m d)) both ∙ ap (drop k) (take-add k (n - k) d) ∙ drop-at (take k d) (take (n - k) (drop k d)) k (length-take-le k d (omega arith)))
 
 -- ---- a card out at place k of the first n
 
@@ -52,14 +76,6 @@ module _ (d : List ℕ) (n k : ℕ) (h : k < n) (m : n ≤ 24) (l : n ≤ length
 
   pub draw-length : length (drawAt d n k) ≡ n - 1
   draw-length = length-append (take k d) (drop (k + 1) (take n d)) ∙ omega (arith, front-length, length-drop (k + 1) (take n d), length-take-le n d l)
-
-  pub draw-after : (j : ℕ) → k ≤ j → j < n - 1 → getD d (j + 1) 0 ≡ getD (drawAt d n k) j 0
-  draw-after j i m =
-      let at : j ≡ length (take k d) + (j - k) = omega (arith, front-length) in
-      let to : k + 1 + (j - k) ≡ j + 1 = omega arith in
-      sym
-      (ap (λ (x : ℕ). getD (drawAt d n k) x 0) at ∙ getD-append-add (take k d) (drop (k + 1) (take n d)) (j - k) 0 ∙ getD-drop (k + 1) (take n d) (j - k) 0
-      ∙ ap (λ (x : ℕ). getD (take n d) x 0) to ∙ getD-take n d (j + 1) 0 (omega arith))
 
   -- the card that went out, put in where it was: the cards are back
   pub back : slots (pushAt (slots (drawAt d n k)) (n - 1) k (getD d k 0)) ≡ slots (take n d)
@@ -78,27 +94,3 @@ module _ (d : List ℕ) (n k : ℕ) (h : k < n) (m : n ≤ 24) (l : n ≤ length
     where
       whole : take (n - 1) (slots (drawAt d n k)) ≡ drawAt d n k
       whole = slots-front (drawAt d n k) (n - 1) draw-length (omega arith)
-
--- ---- a card in at place k of the first n
-
-module _ (d : List ℕ) (n k c : ℕ) (h : k ≤ n) (l : n ≤ length d) where
-  before-length : length (take k d) ≡ k
-  before-length = length-take-le k d (omega arith)
-
-  pub push-length : length (pushAt d n k c) ≡ n + 1
-  push-length = length-append (take k d) (c ∷ drop k (take n d)) ∙ omega (arith, before-length, length-drop k (take n d), length-take-le n d l)
-
-  -- the place k + j, which is the card's or one after it
-  from-place : (j i : ℕ) → k + j ≡ i → getD (c ∷ drop k (take n d)) j 0 ≡ getD (pushAt d n k c) i 0
-  from-place j i e =
-      let at : length (take k d) + j ≡ i = omega (arith, before-length) in
-      sym (getD-append-add (take k d) (c ∷ drop k (take n d)) j 0) ∙ ap (λ (x : ℕ). getD (pushAt d n k c) x 0) at
-
-  pub push-at : (j : ℕ) → k ≡ j → c ≡ getD (pushAt d n k c) j 0
-  push-at j e = from-place 0 j (omega arith)
-
-  pub push-after : (j : ℕ) → k < j → j < n + 1 → getD d (j - 1) 0 ≡ getD (pushAt d n k c) j 0
-  push-after j i m =
-      let to : k + (j - 1 - k) ≡ j - 1 = omega arith in
-      let here : k + suc (j - 1 - k) ≡ j = omega arith in
-      sym (getD-drop k (take n d) (j - 1 - k) 0 ∙ ap (λ (x : ℕ). getD (take n d) x 0) to ∙ getD-take n d (j - 1) 0 (omega arith)) ∙ from-place (suc (j - 1 - k)) j here

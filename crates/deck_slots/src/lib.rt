@@ -1,23 +1,31 @@
 // The deck's 24 slots, of which the first `left` hold the cards left: an array and a length in the place of ArrayVec. A card goes out at a place and in at one.
 ghost use mathlib.Core.Path.{_≡_};
-ghost use Prim.Native.Nat.{_<_, _≤_};
+ghost use Prim.Native.Nat.{_<_, _≤_, _+_};
 ghost use lib.Dec.{eqb};
-ghost use lib.ListN.{getD, take};
+ghost use lib.ListN.{length, getD, take, drop};
+ghost use lib.Seq.{paste};
 ghost use Rattle.rules.specs.Bits.{firstOf};
 ghost use Rattle.rules.specs.Play.{slots, drawAt, pushAt};
+
+// Copies n cards of the deck, from a place on, into the slots from another place on.
+fn copy(deck: &[u8], from: usize, out: &mut [u8], to: usize, n: usize)
+    requires { ⌜ (from + n ≤ length (now deck)) × (to + n ≤ length (now out)) ⌝ }
+    ensures { λ _. ⌜ now (out .exit) ≡ paste (now (out .entry)) to (drop from (now (deck .entry))) n ⌝ }
+{
+    let mut i: usize = 0;
+    while i < n {
+        out[to + i] = deck[from + i];
+        i += 1;
+    }
+}
 
 // The cards left alone: spare slots are 0.
 pub fn cards(deck: [u8; 24], left: u8) -> [u8; 24]
     requires { ⌜ left ≤ 24 ⌝ }
     ensures { λ r. ⌜ r ≡ slots (take left deck) ⌝ }
 {
-    let end = left as usize;
     let mut out = [0u8; 24];
-    let mut j: usize = 0;
-    while j < end {
-        out[j] = deck[j];
-        j += 1;
-    }
+    copy(&deck, 0, &mut out, 0, left as usize);
     out
 }
 
@@ -41,14 +49,11 @@ pub fn draw(deck: [u8; 24], left: u8, place: u8) -> [u8; 24]
     requires { ⌜ (place < left) × (left ≤ 24) ⌝ }
     ensures { λ r. ⌜ r ≡ slots (drawAt deck left place) ⌝ }
 {
-    let end = left as usize - 1;
-    let mut rest = cards(deck, place);
-    let mut j = place as usize;
-    while j < end {
-        rest[j] = deck[j + 1];
-        j += 1;
-    }
-    rest
+    let at = place as usize;
+    let after = at + 1;
+    let mut out = cards(deck, place);
+    copy(&deck, after, &mut out, at, left as usize - after);
+    out
 }
 
 // The card comes to stand at the place, and those from there on move up. Spare slots are 0.
@@ -56,13 +61,9 @@ pub fn push(deck: [u8; 24], left: u8, place: u8, card: u8) -> [u8; 24]
     requires { ⌜ (place ≤ left) × (left < 24) ⌝ }
     ensures { λ r. ⌜ r ≡ slots (pushAt deck left place card) ⌝ }
 {
-    let last = left as usize;
+    let at = place as usize;
     let mut out = cards(deck, place);
-    let mut j = place as usize;
-    out[j] = card;
-    while j < last {
-        out[j + 1] = deck[j];
-        j += 1;
-    }
+    out[at] = card;
+    copy(&deck, at, &mut out, at + 1, left as usize - at);
     out
 }
