@@ -106,7 +106,7 @@ fn arranged(mut p: Position) -> Started
     }
     p.visible = visible;
     Started {
-        refusal: 0,
+        refusal: rules::ACCEPTED,
         position: p,
     }
 }
@@ -116,7 +116,7 @@ pub fn resume(step: u8, cards: &[u8], code: u64) -> Started
     ensures { λ r. ⌜ r ≡ resumeAnswer (now (cards .entry)) step code ⌝ }
 {
     let number = deal_refusal(step, cards);
-    if number != 0 {
+    if number != rules::ACCEPTED {
         return refused(number);
     }
     let fields = fields_of(code);

@@ -70,7 +70,7 @@ pub fn deal_refusal(step: u8, cards: &[u8]) -> u8
     if seen != proper::FULL {
         return rules::SAME_CARD;
     }
-    0
+    rules::ACCEPTED
 }
 
 // The 52 bytes as an array.
@@ -124,11 +124,11 @@ pub fn deal(step: u8, cards: &[u8]) -> Started
     ensures { λ r. ⌜ r ≡ dealAnswer (now (cards .entry)) step ⌝ }
 {
     let wrong = deal_refusal(step, cards);
-    if wrong != 0 {
+    if wrong != rules::ACCEPTED {
         return refused(wrong);
     }
     Started {
-        refusal: 0,
+        refusal: rules::ACCEPTED,
         position: fresh(step, as_deal(cards)),
     }
 }

@@ -83,7 +83,7 @@ fn refusal(len: u8, step: u8, cur: u8) -> u8
     if len < cur {
         return rules::NOT_PROPER;
     }
-    0
+    rules::ACCEPTED
 }
 
 // A deal on a cursor, which stays where it is refused.
@@ -95,7 +95,7 @@ pub fn deal_once(c: Cursor) -> Turned
     let cur = c.offset;
     let no = refusal(len, step, cur);
     let mut to = cur;
-    if no == 0 {
+    if no == rules::ACCEPTED {
         to = offset_once(len, step, cur);
     }
     Turned {

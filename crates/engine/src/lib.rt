@@ -27,7 +27,7 @@ use rules::Told;
 pub const PILE_BYTES: usize = card::N_PILES as usize * card::N_RANKS as usize;
 
 // No refusal.
-const ACCEPTED: u8 = 0;
+const ACCEPTED: u8 = rules::ACCEPTED;
 
 // The highest card.
 const LAST_CARD: u8 = card::N_CARDS - 1;

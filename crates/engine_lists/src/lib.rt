@@ -10,7 +10,7 @@ use rules::Position;
 use rules::Told;
 
 // No refusal.
-const ACCEPTED: u8 = 0;
+const ACCEPTED: u8 = rules::ACCEPTED;
 
 // The highest kind and the highest card.
 const LAST_KIND: u8 = moves::REVEAL;
