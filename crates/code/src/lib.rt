@@ -1,4 +1,4 @@
-// The save code, and the position that a code stands for. A fresh deal is code_deal's: here are all its calls too, by their names.
+// The save code, and the position that a code stands for. A fresh deal is in crate `code_deal`; its names are passed on.
 ghost use mathlib.Core.Path.{_≡_};
 ghost use lib.Dec.{T};
 ghost use Rattle.rules.specs.Proper.{proper};

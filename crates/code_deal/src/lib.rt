@@ -1,4 +1,4 @@
-// A fresh deal: the refusals of what is dealt, the position, and the blank one that a refused call returns.
+// A fresh deal: the refusals of what is dealt, the position, and the blank one that a refused call returns. Crate `code` passes these names on.
 ghost use mathlib.Core.Path.{_≡_};
 ghost use lib.ListN.{length, take, drop};
 ghost use Rattle.rules.specs.Hidden.{CardsFit};

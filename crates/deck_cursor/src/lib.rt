@@ -1,20 +1,15 @@
-// Dealing: the offset after one deal and after many, on bare numbers and on a cursor that is given or lent.
+// Dealing: the offset after one deal and after many, on bare numbers and on a cursor that is given or lent. Crate `deck` passes these names on.
 ghost use mathlib.Core.Path.{_≡_};
-ghost use Prim.Native.Nat.{_<_, _≤_, _+_, _-_, _/_, min as minOf};
+ghost use Prim.Native.Nat.{_<_, _≤_, _+_, _-_, _/_};
 ghost use Rattle.rules.specs.Dealing.{dealt, deals, cursorOf, pureAt};
 ghost use Rattle.rules.specs.Answers.{cursorRefusal, dealOnceAnswer};
 ghost use Rattle.rules.specs.Code.{storedOffset};
+use bits::min;
 use rules::Cursor;
 use rules::Turned;
 
 // A deck has at most this many cards, and a deal turns at most as many.
 const N_DECK_CARDS: u8 = card::N_DECK_CARDS;
-
-fn min(a: u8, b: u8) -> u8
-    ensures { λ r. ⌜ r ≡ minOf a b ⌝ }
-{
-    if a < b { a } else { b }
-}
 
 // How many steps go into x, the last one begun counted.
 fn div_ceil(x: u8, step: u8) -> u8

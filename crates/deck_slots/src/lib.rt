@@ -1,4 +1,5 @@
 // The deck's 24 slots, of which the first `left` hold the cards left: an array and a length in the place of ArrayVec. A card goes out at a place and in at one.
+// Crate `deck` passes these names on.
 ghost use mathlib.Core.Path.{_≡_};
 ghost use Prim.Native.Nat.{_<_, _≤_, _+_};
 ghost use lib.Dec.{eqb};

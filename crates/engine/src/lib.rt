@@ -1,4 +1,5 @@
-// The public calls, all of them, by these names: those on a history stand in engine_history, those on the moves of a position in engine_lists, the others here.
+// The public calls. Those over a history are in crate `engine_history`, those that tell the moves of a position in `engine_lists`; their names are passed on, so that
+// this crate has every public call.
 // Each judges its own input, asks nothing of its caller, and refuses by document 01's numbers, in its order.
 // A refused call hands back the position it was given and leaves lent memory as it was.
 ghost use mathlib.Core.Path.{_≡_};

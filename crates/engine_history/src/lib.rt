@@ -1,4 +1,4 @@
-// The public calls that take a game on and back: a move and an undo, over a lent history and a count. Crate engine has them by these names.
+// The public calls that take a game on and back: a move and an undo, over a lent history and a count. Crate `engine` passes these names on.
 ghost use mathlib.Core.Path.{_≡_};
 ghost use Rattle.rules.specs.declared.TurnedUp.the-variants.{Nothing};
 ghost use Rattle.rules.specs.Answers.{moveAnswer, moveHistory, undoAnswer};

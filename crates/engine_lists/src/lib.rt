@@ -1,4 +1,4 @@
-// The public calls that tell the moves of a position: their masks, the test of one, their list. Crate engine has them by these names.
+// The public calls that tell the moves of a position: their masks, the test of one, their list. Crate `engine` passes these names on.
 ghost use mathlib.Core.Path.{_≡_};
 ghost use lib.ListN.{length};
 ghost use denote.Ref.{ptr};

@@ -1,4 +1,4 @@
-// The moves and their listing. What is said of the five masks alone stands in a crate of its own, so that it is proved by itself, and has its names here too.
+// The listing of the moves. The kinds and the five masks are in crate `moves_masks`; their names are passed on, so that what is ported of moves.rs is all here.
 ghost use mathlib.Core.Path.{_≡_};
 ghost use lib.ListN.{length};
 ghost use denote.Ref.{ptr};

@@ -1,4 +1,4 @@
-// The kinds of moves, and the moves as five masks, one for each kind.
+// The kinds of moves, and the moves as five masks, one for each kind. Crate `moves` passes these names on.
 ghost use mathlib.Core.Path.{_≡_};
 ghost use Prim.Native.Nat.{_<_};
 ghost use Rattle.rules.specs.Moves.{moveCount, noMoves, filtered, combined, oneMove};

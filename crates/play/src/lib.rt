@@ -1,4 +1,4 @@
-// Making a move and going back over one: the work behind the engine's move and undo. The moves themselves are play_moves', and stand here too by their names.
+// Making a move and going back over one: the work behind the engine's move and undo. The moves themselves are in crate `play_moves`; their names are passed on.
 mod entries;
 
 pub use entries::entry;

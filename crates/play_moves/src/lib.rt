@@ -1,4 +1,4 @@
-// Making a legal move, and going back over one that has a way back.
+// Making a legal move, and going back over one that has a way back. Crate `play` passes these names on.
 mod make;
 mod parts;
 mod unmake;

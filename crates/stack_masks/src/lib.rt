@@ -1,13 +1,14 @@
 // The masks that the four heights give: the next cards, and those that may go up at once. Crate `stack` passes these names on.
 ghost use mathlib.Core.Path.{_≡_};
 ghost use mathlib.Core.Bool.{_&&_};
-ghost use Prim.Native.Nat.{ℕ, _<_, _≤_, min as least};
+ghost use Prim.Native.Nat.{ℕ, _<_, _≤_};
 ghost use lib.Dec.{eqb, ltb};
 ghost use lib.ListN.{getD};
 ghost use Rattle.bits.specs.Bit.{maskOf};
 ghost use Rattle.rules.specs.Cards.{suit as suitOf, rank};
 ghost use Rattle.rules.specs.Legal.{nextOn};
 ghost use Rattle.rules.specs.Pruned.{dominantOn};
+use bits::min;
 
 // The card of a suit that is next on a foundation of this height.
 fn next(suit: usize, height: u8) -> u64
@@ -26,12 +27,6 @@ pub fn mask(heights: [u8; 4]) -> u64
     ensures { λ r. ⌜ r ≡ maskOf 56 (nextOn heights) ⌝ }
 {
     next(0, heights[0]) | next(1, heights[1]) | next(2, heights[2]) | next(3, heights[3])
-}
-
-fn min(a: u8, b: u8) -> u8
-    ensures { λ r. ⌜ r ≡ least a b ⌝ }
-{
-    if a < b { a } else { b }
 }
 
 // The lowest n bits.
