@@ -1,7 +1,8 @@
 // What speaks of all four foundations: tests of every height, their sum, and the heights' field of the save code.
 // Crate `stack` passes these names on.
+ghost use mathlib.Core.Bool.{_&&_};
 ghost use mathlib.Core.Path.{_≡_};
-ghost use lib.Dec.{eqb};
+ghost use lib.Dec.{leb};
 ghost use lib.ListN.{getD};
 ghost use Rattle.rules.specs.Bits.{allOf};
 ghost use Rattle.rules.specs.Foundations.{validOn, fullOn, emptyOn, cardsOn, fieldOn};
@@ -15,50 +16,43 @@ const FIELD: u32 = 16;
 
 const LOW: u16 = 15;
 
+// Does each height lie from low to high?
+fn all_within(heights: [u8; 4], low: u8, high: u8) -> bool
+    ensures { λ r. ⌜ r ≡ allOf 4 (λ s. leb low (getD heights s 0) && leb (getD heights s 0) high) ⌝ }
+{
+    let a = heights[0];
+    let b = heights[1];
+    let c = heights[2];
+    let d = heights[3];
+    (low <= a)
+        & (a <= high)
+        & (low <= b)
+        & (b <= high)
+        & (low <= c)
+        & (c <= high)
+        & (low <= d)
+        & (d <= high)
+}
+
 // Is each height one that a foundation can have?
 pub fn is_valid(heights: [u8; 4]) -> bool
     ensures { λ r. ⌜ r ≡ validOn heights ⌝ }
 {
-    if heights[0] > N_RANKS {
-        return false;
-    }
-    if heights[1] > N_RANKS {
-        return false;
-    }
-    if heights[2] > N_RANKS {
-        return false;
-    }
-    heights[3] <= N_RANKS
-}
-
-// Is each foundation of this height?
-fn all_are(heights: [u8; 4], height: u8) -> bool
-    ensures { λ r. ⌜ r ≡ allOf 4 (λ s. eqb (getD heights s 0) height) ⌝ }
-{
-    if heights[0] != height {
-        return false;
-    }
-    if heights[1] != height {
-        return false;
-    }
-    if heights[2] != height {
-        return false;
-    }
-    heights[3] == height
+    all_within(heights, 0, N_RANKS)
 }
 
 // Is every foundation full?
 pub fn is_full(heights: [u8; 4]) -> bool
     ensures { λ r. ⌜ r ≡ fullOn heights ⌝ }
 {
-    all_are(heights, N_RANKS)
+    all_within(heights, N_RANKS, N_RANKS)
 }
 
 // Is every foundation empty?
 pub fn is_empty(heights: [u8; 4]) -> bool
     ensures { λ r. ⌜ r ≡ emptyOn heights ⌝ }
 {
-    all_are(heights, 0)
+    all_within(heights, 0, 0)
 }
 
 // How many cards are on the foundations.
