@@ -2,6 +2,7 @@
 // Crate `stack` passes these names on.
 ghost use mathlib.Core.Bool.{_&&_};
 ghost use mathlib.Core.Path.{_≡_};
+ghost use Prim.Native.Nat.{_+_, _*_, _≤_};
 ghost use lib.Dec.{leb};
 ghost use lib.ListN.{getD};
 ghost use Rattle.rules.specs.Bits.{allOf};
@@ -55,20 +56,28 @@ pub fn is_empty(heights: [u8; 4]) -> bool
     all_within(heights, 0, 0)
 }
 
+// The heights as the digits of a number, suit 0 lowest. They are summed, and not joined by `|`: so it is exact for every byte, also
+// for those that are no digits of the radix.
+fn weighed(heights: [u8; 4], radix: u32) -> u32
+    requires { ⌜ radix ≤ 16 ⌝ }
+    ensures { λ r. ⌜ r ≡ getD heights 0 0 + radix * (getD heights 1 0 + radix * (getD heights 2 0 + radix * getD heights 3 0)) ⌝ }
+{
+    heights[0] as u32
+        + radix * (heights[1] as u32 + radix * (heights[2] as u32 + radix * heights[3] as u32))
+}
+
 // How many cards are on the foundations.
 pub fn len(heights: [u8; 4]) -> u32
     ensures { λ r. ⌜ r ≡ cardsOn heights ⌝ }
 {
-    heights[0] as u32 + heights[1] as u32 + heights[2] as u32 + heights[3] as u32
+    weighed(heights, 1)
 }
 
-// The heights' field of the save code. It is summed, and not joined by `|`: so it is exact for every byte, also for those that
-// take more than four bits.
+// The heights' field of the save code.
 pub fn encode(heights: [u8; 4]) -> u32
     ensures { λ r. ⌜ r ≡ fieldOn heights ⌝ }
 {
-    heights[0] as u32
-        + FIELD * (heights[1] as u32 + FIELD * (heights[2] as u32 + FIELD * heights[3] as u32))
+    weighed(heights, FIELD)
 }
 
 // The four heights that a field holds.

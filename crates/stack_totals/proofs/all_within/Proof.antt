@@ -2,6 +2,7 @@
 -- Assumes nothing.
 use borrow.Author.Needs.{needs}
 use mathlib.Core.Bool.{and-true, and-assoc}
+use mathlib.Core.Path.{refl}
 use Rattle.rules.specs.Bits.{allOf}
 use Rattle.stack_totals.proofs.all_within.Statement.{statement}
 use Rattle.stack_totals.proofs.all_within.Tie as tie
@@ -20,7 +21,7 @@ array-read-d c = search needs
 
 returns : tie.Need-returns
 unfolding allOf
-returns c = simp (and-assoc, and-true)
+returns c = simp (and-assoc, and-true) refl
 
 pub all-within-spec : {M : Type 1} → statement M
 all-within-spec = tie.close (tie.spec array-read-a array-read-b array-read-c array-read-d returns)
