@@ -6,7 +6,7 @@ use mathlib.Core.List.{List}
 use Prim.Native.Nat.{ℕ, _+_, _-_, _*_, _%_, _^_, _≤_, _<_}
 use native.Mathlib.Nat.{one-mul}
 use native.Mathlib.Omega.{arith}
-use lib.Dec.{eqb, ltb, lit≤}
+use lib.Dec.{eqb, lit≤}
 use lib.ListN.{getD}
 use lib.Bits.{bitAnd, bitOr, and-mask}
 use mir.Val.{boolByte}
@@ -22,8 +22,7 @@ use Rattle.rules.proofs.Searches.{any-ext}
 use Rattle.rules.proofs.Steps.{any-more}
 use Rattle.rules.proofs.ProperMade.{none-any}
 use Rattle.rules.proofs.Collect.{eqb-sym}
-use Rattle.rules.proofs.PilePlaces.{pile-place}
-use Rattle.hidden_counts.proofs.Head.{less-one}
+use Rattle.rules.proofs.PilePlaces.{pile-low, pile-place}
 
 -- `1 << c`
 pub bit-shifted : (c k : ℕ) → k < 64 → bit (1 * 2 ^ c % 2 ^ 64) k ≡ eqb c k
@@ -94,9 +93,10 @@ fronts-step d m i s y r low l h es ey er =
 
 -- ---- the places that the loops read
 
--- the places of a pile's first x cards, x not above its size; where s is the pile's start
-pub in-deal : (i x s : ℕ) → i < 7 → x ≤ i + 1 → s ≡ pileStart i → s + x ≤ 52
-in-deal i x s l m e = let p = pile-place i i l (omega arith) in omega arith
+-- the place past a pile's first x cards, x not above its size; where s is the pile's start
+pub past-place : (i x s : ℕ) → i < 7 → x ≤ i + 1 → s ≡ pileStart i → s + x < 52
+past-place i x s l m e = omega (arith, pile-low i i l (omega arith))
 
-pub last-place : (i x s : ℕ) → i < 7 → x ≤ i + 1 → s ≡ pileStart i → s + (x - boolByte (ltb 0 x)) < 52
-last-place i x s l m e = let p = pile-place i (x - 1) l (omega arith) in omega (arith, less-one x)
+-- so their places are places of the deal
+pub in-deal : (i x s : ℕ) → i < 7 → x ≤ i + 1 → s ≡ pileStart i → s + x ≤ 52
+in-deal i x s l m e = omega (arith, past-place i x s l m e)

@@ -44,19 +44,13 @@ pub fn head_mask(deal: &[u8; 52], counts: &[u8; 7]) -> u64
     mask
 }
 
-// The first card of each pile.
+// The first card of each pile: the head, where one card of each is locked.
 pub fn base_mask(deal: &[u8; 52]) -> u64
     requires { ⌜ CardsFit (now deal) ⌝ }
     ensures { λ r. ⌜ r ≡ maskOf 52 (baseIn (now (deal .entry))) ⌝ }
 {
-    let mut mask: u64 = 0;
-    let mut i: usize = 0;
-    while i < N_PILES {
-        let at = card::pile_start(i) as usize;
-        mask |= 1u64 << deal[at];
-        i += 1;
-    }
-    mask
+    let ones = [1u8; 7];
+    head_mask(deal, &ones)
 }
 
 // The buried cards.

@@ -1,2 +1,2 @@
-pub mod Four
 pub mod Totals
+pub mod Within

@@ -5,8 +5,8 @@ use borrow.Author.Count.{below-more}
 use borrow.Author.Tests.{lt-ltb, le-ltb}
 use mathlib.Core.Path.{_≡_, refl, sym, ap, _∙_}
 use mathlib.Core.List.{List}
-use Prim.Native.Nat.{ℕ, _+_, _-_, _/_, _%_, _≤_, _<_}
-use native.Mathlib.Nat.{mod-lt, not-suc-le-zero}
+use Prim.Native.Nat.{ℕ, _+_, _-_, _/_, _%_, _^_, _≤_, _<_}
+use native.Mathlib.Nat.{mod-lt, lt-of-lt-of-le, not-suc-le-zero}
 use native.Mathlib.Omega.{arith}
 use lib.ListN.{getD, length, length-set}
 use lib.Seq.{getD-set-same, getD-set-other}
@@ -44,8 +44,12 @@ add-n-options c = search needs
 rem-counts : tie.Need-rem-counts Inv-loop μ-loop
 rem-counts c = search needs
 
+-- a remainder by a byte is a byte: so the bound says nothing of the radix
+rest-byte : (x m : ℕ) → 0 < m → m ≤ 2 ^ 8 → x % m < 2 ^ 8
+rest-byte x m z l = lt-of-lt-of-le (mod-lt x z) l
+
 cast-counts : tie.Need-cast-counts Inv-loop μ-loop
-cast-counts c = omega (arith, mod-lt (c .before .loop .rest) {m = c .before .loop .i + 2} (omega arith))
+cast-counts c = record { fits = rest-byte _ _ (omega arith) (omega arith) }
 
 array-write-counts : tie.Need-array-write-counts Inv-loop μ-loop
 array-write-counts c = search needs

@@ -22,7 +22,7 @@ fits c = omega (arith, c .before .before .pre (c .before .loop .i - 1) (omega ar
 
 after : (c : tie.In-loop Inv-loop μ-loop) →
     c .before .loop .res * (c .before .loop .i - 1 + 2) + getD (c .before .before .args .counts .now) (c .before .loop .i - 1) 0 ≡ fieldFrom (λ j. getD (c .before .before .args .counts .now) j 0) (7 - (c .before .loop .i - 1)) (c .before .loop .i - 1)
-after c = field-more (λ j. getD (c .before .before .args .counts .now) j 0) (c .before .loop .i) (c .before .loop .res) (c .loop-test .taken) (c .before .loop .inv .0) (c .before .loop .inv .1)
+after c = field-more (λ j. getD (c .before .before .args .counts .now) j 0) (c .before .loop .i) (c .before .loop .res) (omega arith) (c .before .loop .inv .0) (c .before .loop .inv .1)
 
 after-low : (c : tie.In-loop Inv-loop μ-loop) → c .before .loop .res * (c .before .loop .i - 1 + 2) + getD (c .before .before .args .counts .now) (c .before .loop .i - 1) 0 < 40320
 after-low c = rw (after c) (from-low (λ j. getD (c .before .before .args .counts .now) j 0) (c .before .before .pre) (c .before .loop .i - 1) (omega arith))

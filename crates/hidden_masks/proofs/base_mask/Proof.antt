@@ -1,82 +1,34 @@
 -- `hidden_masks::base_mask` meets its contract.
 -- Assumes nothing.
-use borrow.Author.Needs.{needs}
-use mathlib.Core.Path.{_≡_, refl, ap}
-use Prim.Native.Nat.{ℕ, _-_, _≤_, _<_}
-use native.Mathlib.Omega.{arith}
 use mathlib.Core.Bool.{true}
-use lib.ListN.{getD}
-use Rattle.rules.specs.Bits.{maskOf, anyOf}
-use Rattle.rules.specs.Hidden.{placed, baseIn}
-use Rattle.hidden_masks.proofs.Collected.{picked, picked-step, in-deal}
+use mathlib.Core.Path.{_≡_, refl, _∙_}
+use mathlib.Core.List.{List}
+use Prim.Native.Nat.{ℕ, _+_, _≤_, _<_}
+use lib.Dec.{leb}
+use lib.ListN.{replicate}
+use borrow.Author.Tests.{leb-true}
+use Rattle.bits.proofs.Laws.{mask-ext}
+use Rattle.rules.specs.Bits.{allOf, anyOf}
+use Rattle.rules.specs.Hidden.{headIn, baseIn}
+use Rattle.rules.proofs.Searches.{all-yes}
 use Rattle.hidden_masks.proofs.base_mask.Statement.{statement}
 use Rattle.hidden_masks.proofs.base_mask.Tie as tie
 
-abbrev Inv-loop : tie.InvT-loop
-Inv-loop deal mask₀ i₀ mask i = (i ≤ 7) × (mask ≡ picked (λ j. true) (λ j. placed deal j 0) i)
+-- counts that are given in numbers: their ranges are computed, so that this says nothing of which numbers they are
+fit : (n : ℕ → ℕ) → allOf 7 (λ i. leb (n i) (i + 1)) ≡ true → (i : ℕ) → i < 7 → n i ≤ i + 1
+fit n e i l = leb-true (n i) (i + 1) (all-yes 7 (λ j. leb (n j) (j + 1)) e i l)
 
-abbrev μ-loop : tie.MeasureT-loop
-μ-loop deal mask₀ i₀ mask i = 7 - i
+-- the head of a pile with one locked card is its base
+heads-of-one : (d : List ℕ) (c : ℕ) → headIn d (replicate 7 1) c ≡ baseIn d c
+unfolding headIn baseIn anyOf
+heads-of-one d c = refl
 
--- the place that is read, and the card there
-place : (c : tie.After-pile-start Inv-loop μ-loop) → c .pile-start .result < 52
-place c = omega (arith, in-deal (c .before .before .loop .i) 1 (c .pile-start .result) (c .before .loop-test .taken) (omega arith) (c .pile-start .ensures))
+head-mask-requires : tie.Need-head-mask-requires
+unfolding allOf
+head-mask-requires c κs = (c .before .pre, fit _ refl)
 
-card : (c : tie.After-pile-start Inv-loop μ-loop) → getD (c .before .before .before .args .deal .now) (c .pile-start .result) 0 < 52
-card c = c .before .before .before .pre (c .pile-start .result) (place c)
-
-loop-holds : tie.Need-loop-holds Inv-loop μ-loop
-unfolding maskOf anyOf
-loop-holds c = (omega arith, refl)
-
-pile-start-requires : tie.Need-pile-start-requires Inv-loop μ-loop
-pile-start-requires c κs = search needs
-
-cast-at : tie.Need-cast-at Inv-loop μ-loop
-cast-at c = search needs
-
-element-copy-out-mask : tie.Need-element-copy-out-mask Inv-loop μ-loop
-element-copy-out-mask c = omega (arith, place c)
-
-cast-mask : tie.Need-cast-mask Inv-loop μ-loop
-cast-mask c = omega (arith, card (c .before))
-
-shl-mask : tie.Need-shl-mask Inv-loop μ-loop
-shl-mask c = omega (arith, card (c .before))
-
-add-i : tie.Need-add-i Inv-loop μ-loop
-add-i c = search needs
-
-loop-less : tie.Need-loop-less Inv-loop μ-loop
-loop-less c = search needs
-
-loop-again : tie.Need-loop-again Inv-loop μ-loop
-loop-again c =
-    let b = c .before .before .before in
-    let d = b .before .args .deal .now in (
-      omega arith,
-      rw (b .loop .inv .1) (picked-step (λ j. true) (λ j. placed d j 0) (b .loop .i) _ (card (c .before)) (λ t. ap (λ (k : ℕ). getD d k 0) (omega (arith, c .before .pile-start .ensures)))),
-    )
-
-returns : tie.Need-returns Inv-loop μ-loop
-unfolding baseIn
-returns c =
-    let e : c .before .loop .i ≡ 7 = omega arith in
-    rw e at (c .before .loop .inv .1)
+returns : tie.Need-returns
+returns c = c .head-mask .ensures ∙ mask-ext 52 _ _ (λ x l. heads-of-one (c .before .before .args .deal .now) x)
 
 pub base-mask-spec : {M : Type 1} → statement M
-base-mask-spec =
-    tie.close
-    (tie.spec
-    Inv-loop
-    μ-loop
-    loop-holds
-    pile-start-requires
-    cast-at
-    element-copy-out-mask
-    cast-mask
-    shl-mask
-    add-i
-    loop-less
-    loop-again
-    returns)
+base-mask-spec = tie.close (tie.spec head-mask-requires returns)

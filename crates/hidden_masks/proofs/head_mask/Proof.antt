@@ -3,15 +3,16 @@
 use borrow.Author.Needs.{needs}
 use mathlib.Core.Path.{_≡_, refl, ap}
 use Prim.Native.Nat.{ℕ, _+_, _-_, _≤_, _<_}
+use native.Mathlib.Nat.{le-trans, lt-of-lt-of-le}
 use native.Mathlib.Omega.{arith}
-use lib.Dec.{ltb}
+use lib.Dec.{ltb, lit≤}
 use lib.ListN.{getD}
 use mir.Val.{boolByte}
 use borrow.Author.Tests.{ltb-true}
 use Rattle.rules.specs.Bits.{maskOf, anyOf}
 use Rattle.rules.specs.Hidden.{placed, headIn}
 use Rattle.hidden_counts.proofs.Head.{some-le}
-use Rattle.hidden_masks.proofs.Collected.{picked, picked-step, last-place}
+use Rattle.hidden_masks.proofs.Collected.{picked, picked-step, past-place}
 use Rattle.hidden_masks.proofs.head_mask.Statement.{statement}
 use Rattle.hidden_masks.proofs.head_mask.Tie as tie
 
@@ -21,18 +22,19 @@ Inv-loop deal counts mask₀ i₀ mask i = (i ≤ 7) × (mask ≡ picked (λ j. 
 abbrev μ-loop : tie.MeasureT-loop
 μ-loop deal counts mask₀ i₀ mask i = 7 - i
 
--- the count of the pile, the place that is read and the card there
+-- the count of the pile, the place past its locked cards and the cards of the deal
 abbrev count-of : tie.In-loop Inv-loop μ-loop → ℕ
 count-of c = getD (c .before .before .args .counts .now) (c .before .loop .i) 0
 
 fits : (c : tie.In-loop Inv-loop μ-loop) → count-of c ≤ c .before .loop .i + 1
 fits c = c .before .before .pre .1 (c .before .loop .i) (c .loop-test .taken)
 
-place : (c : tie.After-pile-start Inv-loop μ-loop) → c .pile-start .result + (count-of (c .before .before) - boolByte (ltb 0 (count-of (c .before .before)))) < 52
-place c = last-place (c .before .before .before .loop .i) (count-of (c .before .before)) (c .pile-start .result) (c .before .before .loop-test .taken) (fits (c .before .before)) (c .pile-start .ensures)
+-- so the bounds say nothing of which of the places up to there is read
+place : (c : tie.After-pile-start Inv-loop μ-loop) → c .pile-start .result + count-of (c .before .before) < 52
+place c = past-place (c .before .before .before .loop .i) (count-of (c .before .before)) (c .pile-start .result) (c .before .before .loop-test .taken) (fits (c .before .before)) (c .pile-start .ensures)
 
-card : (c : tie.After-pile-start Inv-loop μ-loop) → getD (c .before .before .before .before .args .deal .now) (c .pile-start .result + count-of (c .before .before) - boolByte (ltb 0 (count-of (c .before .before)))) 0 < 52
-card c = c .before .before .before .before .pre .0 _ (omega (arith, place c, some-le 0 (count-of (c .before .before))))
+card : (c : tie.After-pile-start Inv-loop μ-loop) (k : ℕ) → k < 52 → getD (c .before .before .before .before .args .deal .now) k 0 < 52
+card c = c .before .before .before .before .pre .0
 
 loop-holds : tie.Need-loop-holds Inv-loop μ-loop
 unfolding maskOf anyOf
@@ -57,16 +59,16 @@ add-at : tie.Need-add-at Inv-loop μ-loop
 add-at c = omega (arith, place c, fits (c .before .before))
 
 sub-at : tie.Need-sub-at Inv-loop μ-loop
-sub-at c = omega (arith, some-le 0 (count-of (c .before .before)))
+sub-at c = le-trans (some-le _ (count-of (c .before .before))) (omega arith)
 
 element-copy-out-mask : tie.Need-element-copy-out-mask Inv-loop μ-loop
-element-copy-out-mask c = omega (arith, place c, some-le 0 (count-of (c .before .before)))
+element-copy-out-mask c = omega (arith, place c)
 
 cast-mask : tie.Need-cast-mask Inv-loop μ-loop
-cast-mask c = omega (arith, card (c .before))
+cast-mask c = record { fits = lt-of-lt-of-le (card (c .before) _ (omega (arith, place (c .before)))) (lit≤ tt) }
 
 shl-mask : tie.Need-shl-mask Inv-loop μ-loop
-shl-mask c = omega (arith, card (c .before))
+shl-mask c = lt-of-lt-of-le (card (c .before) _ (omega (arith, place (c .before)))) (lit≤ tt)
 
 add-i : tie.Need-add-i Inv-loop μ-loop
 add-i c = search needs
@@ -80,8 +82,8 @@ loop-again c =
     let d = b .before .args .deal .now in
     let x = count-of (c .before .before .before) in (
       omega arith,
-      rw (b .loop .inv .1) (picked-step (λ j. ltb 0 (getD (b .before .args .counts .now) j 0)) (λ j. placed d j (getD (b .before .args .counts .now) j 0 - 1)) (b .loop .i) _ (card (c .before))
-          (λ t. ap (λ (k : ℕ). getD d k 0) (rw t (omega (arith, ltb-true 0 x t, c .before .pile-start .ensures))))),
+      rw (b .loop .inv .1) (picked-step (λ j. ltb 0 (getD (b .before .args .counts .now) j 0)) (λ j. placed d j (getD (b .before .args .counts .now) j 0 - 1)) (b .loop .i) _ (card (c .before) _ (omega (arith, place (c .before))))
+          (λ t. ap (λ (k : ℕ). getD d k 0) (omega (arith, ltb-true 0 x t, ap boolByte t, c .before .pile-start .ensures)))),
     )
 
 returns : tie.Need-returns Inv-loop μ-loop
