@@ -1,77 +1,79 @@
 // Tags 9, 10, 11 and 13: a few calls in one record, each with its own entry.
 ghost use Prim.Native.Nat.{_<_};
-use crate::record::SIZE;
-use crate::record::byte;
-use crate::record::put;
-use crate::record::put_4;
-use crate::table;
-use crate::table::Table;
+use replay_rows::Answer;
+use replay_rows::read;
+use replay_rows::record::SIZE;
+use replay_rows::record::byte;
+use replay_rows::record::put;
+use replay_rows::record::put_4;
 use rules::Cursor;
+use rules::Position;
 
-pub const TESTS: u8 = 9;
+const TESTS: u8 = 9;
 
-pub const FINDS: u8 = 10;
+const FINDS: u8 = 10;
 
-pub const OFFSETS: u8 = 11;
+const OFFSETS: u8 = 11;
 
 // The first entry's place.
 const FIRST: usize = 4;
 
-fn test(t: Table, at: usize) -> Table
+fn test(p: Position, row: [u8; 64], out: [u8; 64], at: usize) -> Answer
     requires { ⌜ at < 64 ⌝ }
 {
-    let kind = byte(t, at);
-    let card = byte(t, at + 1);
-    let a = engine::test(t.position, kind, card);
-    table::read(put_4(t, at, kind, card, a.refusal, a.yes as u8), a.position)
+    let kind = byte(row, at);
+    let card = byte(row, at + 1);
+    let a = engine::test(p, kind, card);
+    let bytes = put_4(out, at, kind, card, a.refusal, a.yes as u8);
+    read(bytes, p, a.position)
 }
 
-fn find(t: Table, at: usize) -> Table
+fn find(p: Position, row: [u8; 64], out: [u8; 64], at: usize) -> Answer
     requires { ⌜ at < 64 ⌝ }
 {
-    let card = byte(t, at);
-    let a = engine::find(t.position, card);
-    table::read(
-        put_4(t, at, card, a.refusal, a.found as u8, a.place),
-        a.position,
-    )
+    let card = byte(row, at);
+    let a = engine::find(p, card);
+    let bytes = put_4(out, at, card, a.refusal, a.found as u8, a.place);
+    read(bytes, p, a.position)
 }
 
-fn offset(t: Table, at: usize) -> Table
+fn offset(p: Position, row: [u8; 64], out: [u8; 64], at: usize) -> Answer
     requires { ⌜ at < 64 ⌝ }
 {
-    let n = byte(t, at);
-    let a = engine::offset(t.position, n);
-    let u = put(put(t, at, n), at + 1, a.refusal);
-    table::read(put(u, at + 2, a.offset), a.position)
+    let n = byte(row, at);
+    let a = engine::offset(p, n);
+    let bytes = put(put(put(out, at, n), at + 1, a.refusal), at + 2, a.offset);
+    read(bytes, p, a.position)
 }
 
-fn cursor(t: Table, at: usize) -> Table
+fn cursor(row: [u8; 64], out: [u8; 64], at: usize) -> Answer
     requires { ⌜ at < 64 ⌝ }
 {
-    let c = Cursor {
-        len: byte(t, at),
-        step: byte(t, at + 1),
-        offset: byte(t, at + 2),
-    };
-    let a = deck::deal_once(c);
-    let d = a.cursor;
-    put(
-        put_4(t, at, d.len, d.step, c.offset, a.refusal),
-        at + 4,
-        d.offset,
-    )
-}
-
-fn one(t: Table, tag: u8, at: usize) -> Table
-    requires { ⌜ at < 64 ⌝ }
-{
-    match tag {
-        TESTS => test(t, at),
-        FINDS => find(t, at),
-        OFFSETS => offset(t, at),
-        _ => cursor(t, at),
+    let offset = byte(row, at + 2);
+    let a = deck::deal_once(Cursor {
+        len: byte(row, at),
+        step: byte(row, at + 1),
+        offset: offset,
+    });
+    let c = a.cursor;
+    let bytes = put_4(out, at, c.len, c.step, offset, a.refusal);
+    Answer {
+        bytes: put(bytes, at + 4, c.offset),
+        kept: true,
     }
+}
+
+fn one(a: Answer, p: Position, tag: u8, row: [u8; 64], at: usize) -> Answer
+    requires { ⌜ at < 64 ⌝ }
+{
+    let out = a.bytes;
+    let b = match tag {
+        TESTS => test(p, row, out, at),
+        FINDS => find(p, row, out, at),
+        OFFSETS => offset(p, row, out, at),
+        _ => cursor(row, out, at),
+    };
+    replay_rows::marked(b, a.kept)
 }
 
 // The bytes of an entry.
@@ -85,15 +87,18 @@ fn width(tag: u8) -> usize
     }
 }
 
-pub fn several(t: Table, tag: u8) -> Table {
+pub fn several(p: Position, tag: u8, row: [u8; 64], out: [u8; 64]) -> Answer {
     let w = width(tag);
-    let mut left = byte(t, 2);
+    let mut left = byte(row, 2);
     let mut at = FIRST;
-    let mut after = t;
+    let mut after = Answer {
+        bytes: out,
+        kept: true,
+    };
     while left > 0 {
         left -= 1;
         if at < SIZE {
-            after = one(after, tag, at);
+            after = one(after, p, tag, row, at);
             at += w;
         }
     }

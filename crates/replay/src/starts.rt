@@ -1,82 +1,86 @@
 // Tags 1, 2 and 12: a deal, a resume, and the ladder with a resumed position.
 ghost use Prim.Native.Nat.{_<_};
-use crate::record::byte;
-use crate::record::long;
-use crate::record::part;
-use crate::record::put;
-use crate::record::put_long;
-use crate::record::small;
-use crate::set;
-use crate::table;
-use crate::table::Table;
-use rules::Compared;
+use replay_rows::Answer;
+use replay_rows::marked;
+use replay_rows::read;
+use replay_rows::record::SIZE;
+use replay_rows::record::byte;
+use replay_rows::record::difference;
+use replay_rows::record::long;
+use replay_rows::record::part;
+use replay_rows::record::put;
+use replay_rows::record::put_long;
+use replay_rows::record::small;
+use replay_rows::same::same;
+use replay_rows::set;
+use replay_rows::table::Table;
+use replay_rows::table::started;
 use rules::Position;
 use rules::Started;
 
-// The save code of the position, and 0 after a refusal. The call hands the position back.
-pub fn put_code(t: Table, at: usize, refusal: u8) -> Table
+// The save code of a position, and 0 after a refusal. The call hands the position back.
+pub fn coded(p: Position, refusal: u8, out: [u8; 64], at: usize) -> Answer
     requires { ⌜ at < 58 ⌝ }
 {
     if refusal != 0 {
-        return t;
+        return Answer {
+            bytes: out,
+            kept: true,
+        };
     }
-    let s = engine::save(t.position);
-    table::read(put_long(t, at, s.code), s.position)
+    let s = engine::save(p);
+    read(put_long(out, at, s.code), p, s.position)
 }
 
-pub fn deal(t: Table) -> Table {
-    let row = t.row;
-    let s = engine::deal(byte(t, 2), part(&row, 4, small(t, 3)));
-    let after = table::started(put(t, 1, s.refusal), s.refusal, s.position);
-    put_code(after, 56, s.refusal)
+fn dealt(row: [u8; 64]) -> Started {
+    let step = byte(row, 2);
+    let n = small(row, 3);
+    engine::deal(step, part(&row, 4, n))
+}
+
+pub fn deal(t: Table, row: [u8; 64], out: [u8; 64]) -> Table {
+    let s = dealt(row);
+    let a = put(out, 1, s.refusal);
+    started(t, s, coded(s.position, s.refusal, a, 56))
 }
 
 // The position's deal, of which a place may have another card.
-fn resumed(t: Table) -> Started {
-    let p = set::with_deal(t.position, small(t, 20), byte(t, 21));
-    let cards = p.deal;
-    engine::resume(byte(t, 2), part(&cards, 0, small(t, 3)), long(t, 4))
+fn resumed(p: Position, row: [u8; 64]) -> Started {
+    let q = set::with(p, set::DEAL, small(row, 20), byte(row, 21));
+    let cards = q.deal;
+    engine::resume(byte(row, 2), part(&cards, 0, small(row, 3)), long(row, 4))
 }
 
-pub fn resume(t: Table) -> Table {
-    let s = resumed(t);
+pub fn resume(t: Table, row: [u8; 64], out: [u8; 64]) -> Table {
+    let s = resumed(t.position, row);
     let q = s.position;
-    let a = put_long(put(t, 1, s.refusal), 12, q.visible);
-    let b = put(put(a, 20, byte(t, 20)), 21, byte(t, 21));
-    table::started(b, s.refusal, q)
+    let a = put(put(out, 20, byte(row, 20)), 21, byte(row, 21));
+    let b = Answer {
+        bytes: put_long(put(a, 1, s.refusal), 12, q.visible),
+        kept: true,
+    };
+    started(t, s, b)
 }
 
 // The position of a code of the same deal.
-fn other(t: Table) -> Position {
-    let p = t.position;
+fn other(p: Position, row: [u8; 64]) -> Position {
     let cards = p.deal;
-    engine::resume(byte(t, 3), &cards, long(t, 4)).position
+    engine::resume(byte(row, 3), &cards, long(row, 4)).position
 }
 
-// Whether the ladder handed both positions back.
-fn handed_back(a: Compared, p: Position, q: Position) -> bool {
-    if !table::same(a.first, p) {
-        return false;
-    }
-    table::same(a.second, q)
+// The ladder hands both positions back.
+fn ranked(p: Position, q: Position, out: [u8; 64]) -> Answer {
+    let a = engine::ladder(p, q);
+    let b = read(put(put(out, 1, a.refusal), 2, a.same as u8), p, a.first);
+    marked(b, same(a.second, q))
 }
 
 // Both ways must answer alike.
-fn alike(a: Compared, b: Compared) -> bool {
-    if a.refusal != b.refusal {
-        return false;
-    }
-    a.same == b.same
-}
-
-fn ranked(t: Table, q: Position) -> Table {
-    let there = engine::ladder(t.position, q);
-    let back = engine::ladder(q, t.position);
-    let a = put(put(t, 1, there.refusal), 2, there.same as u8);
-    let b = table::marked(a, handed_back(there, t.position, q));
-    table::marked(b, alike(there, back))
-}
-
-pub fn ladder(t: Table) -> Table {
-    ranked(t, other(t))
+pub fn ladder(p: Position, row: [u8; 64], out: [u8; 64]) -> Answer {
+    let q = other(p, row);
+    let there = ranked(p, q, out);
+    let back = ranked(q, p, out);
+    let a = there.bytes;
+    let b = back.bytes;
+    marked(marked(there, back.kept), difference(a, b) == SIZE)
 }

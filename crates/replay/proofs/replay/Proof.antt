@@ -5,10 +5,10 @@ use Rattle.replay.proofs.replay.Statement.{statement}
 use Rattle.replay.proofs.replay.Tie as tie
 
 abbrev Inv-loop : tie.InvT-loop
-Inv-loop records run₀ left₀ run left = Unit {0}
+Inv-loop records t₀ tally₀ left₀ t tally left = Unit {0}
 
 abbrev μ-loop : tie.MeasureT-loop
-μ-loop records run₀ left₀ run left = left
+μ-loop records t₀ tally₀ left₀ t tally left = left
 
 new-requires : tie.Need-new-requires Inv-loop μ-loop
 new-requires c κs = search needs
@@ -22,8 +22,14 @@ loop-holds c = search needs
 sub-left : tie.Need-sub-left Inv-loop μ-loop
 sub-left c = search needs
 
-step-requires : tie.Need-step-requires Inv-loop μ-loop
-step-requires c κs = search needs
+read-requires : tie.Need-read-requires Inv-loop μ-loop
+read-requires c κs = search needs
+
+answered-requires : tie.Need-answered-requires Inv-loop μ-loop
+answered-requires c κs = search needs
+
+counted-requires : tie.Need-counted-requires Inv-loop μ-loop
+counted-requires c κs = search needs
 
 loop-less : tie.Need-loop-less Inv-loop μ-loop
 loop-less c = search needs
@@ -33,6 +39,9 @@ loop-again c = search needs
 
 returns : tie.Need-returns Inv-loop μ-loop
 returns c = search needs
+
+returns-2 : tie.Need-returns-2 Inv-loop μ-loop
+returns-2 c = search needs
 
 pub replay-spec : {M : Type 1} → statement M
 replay-spec =
@@ -44,7 +53,10 @@ replay-spec =
     none-requires
     loop-holds
     sub-left
-    step-requires
+    read-requires
+    answered-requires
+    counted-requires
     loop-less
     loop-again
-    returns)
+    returns
+    returns-2)

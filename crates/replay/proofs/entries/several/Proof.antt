@@ -5,10 +5,10 @@ use Rattle.replay.proofs.entries.several.Statement.{statement}
 use Rattle.replay.proofs.entries.several.Tie as tie
 
 abbrev Inv-loop : tie.InvT-loop
-Inv-loop tag w left₀ at₀ after₀ left at after = Unit {0}
+Inv-loop p tag row w left₀ at₀ after₀ left at after = Unit {0}
 
 abbrev μ-loop : tie.MeasureT-loop
-μ-loop tag w left₀ at₀ after₀ left at after = left
+μ-loop p tag row w left₀ at₀ after₀ left at after = left
 
 width-requires : tie.Need-width-requires Inv-loop μ-loop
 width-requires c κs = search needs

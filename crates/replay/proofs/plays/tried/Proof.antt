@@ -8,16 +8,26 @@ use lib.Seq.{length-take-le}
 use Rattle.replay.proofs.plays.tried.Statement.{statement}
 use Rattle.replay.proofs.plays.tried.Tie as tie
 
-array-borrow-prefix-history : tie.Need-array-borrow-prefix-history
-array-borrow-prefix-history c = search needs
+byte-requires : tie.Need-byte-requires
+byte-requires c κs = search needs
+
+byte-requires-2 : tie.Need-byte-requires-2
+byte-requires-2 c κs = search needs
+
+array-borrow-prefix-after : tie.Need-array-borrow-prefix-after
+array-borrow-prefix-after c = search needs
 
 slice-aggregate-do-move : tie.Need-slice-aggregate-do-move
 slice-aggregate-do-move c =
-    let h : c .before .args .room ≤ length (c .before .args .before) = search needs in
-    sym (length-take-le (c .before .args .room) (c .before .args .before) h)
+    let before = c .before .before .before .args .before in
+    let h : c .before .before .before .args .room ≤ length before = search needs in
+    sym (length-take-le (c .before .before .before .args .room) before h)
 
 do-move-requires : tie.Need-do-move-requires
 do-move-requires c κs = search needs
+
+made-requires : tie.Need-made-requires
+made-requires c κs = search needs
 
 returns : tie.Need-returns
 returns c = search needs
@@ -25,4 +35,11 @@ returns c = search needs
 pub tried-spec : {M : Type 1} → statement M
 tried-spec =
     tie.close
-    (tie.spec array-borrow-prefix-history slice-aggregate-do-move do-move-requires returns)
+    (tie.spec
+    byte-requires
+    byte-requires-2
+    array-borrow-prefix-after
+    slice-aggregate-do-move
+    do-move-requires
+    made-requires
+    returns)

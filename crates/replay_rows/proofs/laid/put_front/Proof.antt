@@ -1,9 +1,9 @@
--- `replay::lists::put_front` is safe and ends.
+-- `replay_rows::laid::put_front` is safe and ends.
 -- Assumes nothing.
 use borrow.Author.Needs.{needs}
 use Prim.Native.Nat.{_-_}
-use Rattle.replay.proofs.lists.put_front.Statement.{statement}
-use Rattle.replay.proofs.lists.put_front.Tie as tie
+use Rattle.replay_rows.proofs.laid.put_front.Statement.{statement}
+use Rattle.replay_rows.proofs.laid.put_front.Tie as tie
 
 abbrev Inv-loop : tie.InvT-loop
 Inv-loop slots count after₀ i₀ after i = Unit {0}

@@ -1,12 +1,12 @@
--- `replay::plays::gone_back` is safe and ends.
+-- `replay::plays::unmade` is safe and ends.
 -- Assumes nothing.
 use borrow.Author.Needs.{needs}
 use mathlib.Core.Path.{sym}
 use Prim.Native.Nat.{_≤_}
 use lib.ListN.{length}
 use lib.Seq.{length-take-le}
-use Rattle.replay.proofs.plays.gone_back.Statement.{statement}
-use Rattle.replay.proofs.plays.gone_back.Tie as tie
+use Rattle.replay.proofs.plays.unmade.Statement.{statement}
+use Rattle.replay.proofs.plays.unmade.Tie as tie
 
 array-share-prefix-history : tie.Need-array-share-prefix-history
 array-share-prefix-history c = search needs
@@ -19,10 +19,22 @@ slice-aggregate-undo-move c =
 undo-move-requires : tie.Need-undo-move-requires
 undo-move-requires c κs = search needs
 
+arrived-requires : tie.Need-arrived-requires
+arrived-requires c κs = search needs
+
+moved-requires : tie.Need-moved-requires
+moved-requires c κs = search needs
+
 returns : tie.Need-returns
 returns c = search needs
 
-pub gone-back-spec : {M : Type 1} → statement M
-gone-back-spec =
+pub unmade-spec : {M : Type 1} → statement M
+unmade-spec =
     tie.close
-    (tie.spec array-share-prefix-history slice-aggregate-undo-move undo-move-requires returns)
+    (tie.spec
+    array-share-prefix-history
+    slice-aggregate-undo-move
+    undo-move-requires
+    arrived-requires
+    moved-requires
+    returns)

@@ -1,9 +1,9 @@
--- `replay::lists::put_piles` is safe and ends.
+-- `replay_rows::laid::put_piles` is safe and ends.
 -- Assumes nothing.
 use borrow.Author.Needs.{needs}
 use Prim.Native.Nat.{_≤_, _+_, _*_, _-_}
-use Rattle.replay.proofs.lists.put_piles.Statement.{statement}
-use Rattle.replay.proofs.lists.put_piles.Tie as tie
+use Rattle.replay_rows.proofs.laid.put_piles.Statement.{statement}
+use Rattle.replay_rows.proofs.laid.put_piles.Tie as tie
 
 abbrev Inv-loop : tie.InvT-loop
 Inv-loop bytes lengths after₀ at₀ p₀ after at p = at ≤ 10 + 13 * p

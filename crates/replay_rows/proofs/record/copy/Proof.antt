@@ -1,21 +1,18 @@
--- `replay::record::copy` is safe and ends.
+-- `replay_rows::record::copy` is safe and ends.
 -- Assumes nothing.
 use borrow.Author.Needs.{needs}
 use Prim.Native.Nat.{_-_}
-use Rattle.replay.proofs.record.copy.Statement.{statement}
-use Rattle.replay.proofs.record.copy.Tie as tie
+use Rattle.replay_rows.proofs.record.copy.Statement.{statement}
+use Rattle.replay_rows.proofs.record.copy.Tie as tie
 
 abbrev Inv-loop : tie.InvT-loop
-Inv-loop src from to n after₀ i₀ after i = Unit {0}
+Inv-loop src from to n out₀ i₀ out i = Unit {0}
 
 abbrev μ-loop : tie.MeasureT-loop
-μ-loop src from to n after₀ i₀ after i = n - i
+μ-loop src from to n out₀ i₀ out i = n - i
 
 loop-holds : tie.Need-loop-holds Inv-loop μ-loop
 loop-holds c = search needs
-
-add-put : tie.Need-add-put Inv-loop μ-loop
-add-put c = search needs
 
 add-get : tie.Need-add-get Inv-loop μ-loop
 add-get c = search needs
@@ -23,8 +20,11 @@ add-get c = search needs
 get-requires : tie.Need-get-requires Inv-loop μ-loop
 get-requires c κs = search needs
 
-put-requires : tie.Need-put-requires Inv-loop μ-loop
-put-requires c κs = search needs
+add-at : tie.Need-add-at Inv-loop μ-loop
+add-at c = search needs
+
+array-write-out : tie.Need-array-write-out Inv-loop μ-loop
+array-write-out c = search needs
 
 add-i : tie.Need-add-i Inv-loop μ-loop
 add-i c = search needs
@@ -45,10 +45,10 @@ copy-spec =
     Inv-loop
     μ-loop
     loop-holds
-    add-put
     add-get
     get-requires
-    put-requires
+    add-at
+    array-write-out
     add-i
     loop-less
     loop-again

@@ -1,6 +1,9 @@
 // How many records of each kind came out right, and the first that did not.
 ghost use Prim.Native.Nat.{_<_};
+use crate::Answer;
 use crate::record::SIZE;
+use crate::record::byte;
+use crate::record::difference;
 use crate::record::part;
 use libc::STDOUT_FILENO;
 
@@ -34,23 +37,21 @@ fn next(n: u64) -> u64 {
     std::num::wrapping_add_u64(n, 1)
 }
 
-fn one_more(counts: [u64; 15], tag: u8) -> [u64; 15] {
-    let mut after = counts;
+fn one_more(mut counts: [u64; 15], tag: u8) -> [u64; 15] {
     let i = tag as usize;
     if i < N_TAGS {
-        after[i] = next(after[i]);
+        counts[i] = next(counts[i]);
     }
-    after
+    counts
 }
 
 impl Tally {
-    fn right(self, tag: u8) -> Tally {
+    fn right(mut self, tag: u8) -> Tally {
         let counts = self.of_tag;
         let counted = one_more(counts, tag);
-        let mut after = self;
-        after.records = next(self.records);
-        after.of_tag = counted;
-        after
+        self.records = next(self.records);
+        self.of_tag = counted;
+        self
     }
 
     fn wrong_at(self, tag: u8, at: usize) -> Tally {
@@ -68,14 +69,14 @@ impl Tally {
     }
 
     // A record is right where no byte differs and all else was kept.
-    pub fn counted(self, tag: u8, at: usize, kept: bool) -> Tally {
-        if at != SIZE {
-            return self.wrong_at(tag, at);
+    pub fn counted(self, row: [u8; 64], a: Answer) -> Tally {
+        let bytes = a.bytes;
+        let at = difference(row, bytes);
+        let tag = byte(row, 0);
+        if a.kept && at == SIZE {
+            return self.right(tag);
         }
-        if !kept {
-            return self.wrong_at(tag, at);
-        }
-        self.right(tag)
+        self.wrong_at(tag, at)
     }
 }
 
