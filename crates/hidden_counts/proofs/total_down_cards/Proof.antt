@@ -1,7 +1,7 @@
 -- `hidden_counts::total_down_cards` meets its contract.
 -- Assumes nothing.
 use borrow.Author.Needs.{needs}
-use mathlib.Core.Path.{_≡_, refl, sym}
+use mathlib.Core.Path.{_≡_, refl, sym, ap₂, _∙_}
 use Prim.Native.Nat.{ℕ, _+_, _-_, _*_, _≤_}
 use native.Mathlib.Omega.{arith}
 use lib.ListN.{getD}
@@ -50,7 +50,7 @@ loop-again : tie.Need-loop-again Inv-loop μ-loop
 loop-again c =
     let b = c .before .before in
     let e = less-one (count-of (c .before)) in
-    (omega arith, rw (e, b .loop .inv .1) (sym (sum-more (b .loop .i) _)), omega (arith, e, fits (c .before), b .loop .inv .2))
+    (omega arith, ap₂ _+_ (b .loop .inv .1) e ∙ sym (sum-more (b .loop .i) (λ j. getD (b .before .args .counts .now) j 0 - 1)), omega (arith, e, fits (c .before), b .loop .inv .2))
 
 returns : tie.Need-returns Inv-loop μ-loop
 unfolding downCards

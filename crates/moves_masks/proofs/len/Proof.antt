@@ -20,19 +20,19 @@ count-requires-2 : tie.Need-count-requires-2
 count-requires-2 c κs = search needs
 
 add-result : tie.Need-add-result
-add-result c = let m = c .before .before .args .m in omega (arith, few (m .reveal), few (m .«pile_stack»))
+add-result c = let m = c .before .before .args .m in omega (arith, few (m .reveal), few (m .«pile_stack»), few (m .«deck_pile»), few (m .«deck_stack»), few (m .«stack_pile»))
 
 count-requires-3 : tie.Need-count-requires-3
 count-requires-3 c κs = search needs
 
 add-result-2 : tie.Need-add-result-2
-add-result-2 c = let m = c .before .before .before .args .m in omega (arith, few (m .reveal), few (m .«pile_stack»), few (m .«deck_pile»))
+add-result-2 c = let m = c .before .before .before .args .m in omega (arith, few (m .reveal), few (m .«pile_stack»), few (m .«deck_pile»), few (m .«deck_stack»), few (m .«stack_pile»))
 
 count-requires-4 : tie.Need-count-requires-4
 count-requires-4 c κs = search needs
 
 add-result-3 : tie.Need-add-result-3
-add-result-3 c = let m = c .before .before .before .before .args .m in omega (arith, few (m .reveal), few (m .«pile_stack»), few (m .«deck_pile»), few (m .«deck_stack»))
+add-result-3 c = let m = c .before .before .before .before .args .m in omega (arith, few (m .reveal), few (m .«pile_stack»), few (m .«deck_pile»), few (m .«deck_stack»), few (m .«stack_pile»))
 
 count-requires-5 : tie.Need-count-requires-5
 count-requires-5 c κs = search needs
