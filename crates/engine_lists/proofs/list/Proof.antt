@@ -35,7 +35,7 @@ slice-aggregate-result : tie.Need-slice-aggregate-result
 slice-aggregate-result c =
     let s = c .before .before .before .before .before .before in
     let l = c .before .before .before .list-into in
-    let w = front (s .args .pruned) (s .args .p) (now (s .args .out)) (l .last .1 .1 .0) (l .result) (l .ensures .0) (l .ensures .1) in
+    let w = front _ (s .args .p) (now (s .args .out)) (l .last .1 .1 .0) (l .result) (l .ensures .0) (l .ensures .1) in
     w .0 ∙ sym (ap length (w .1))
 
 returns : tie.Need-returns
