@@ -1,11 +1,11 @@
--- `engine::find` meets its contract.
+-- `engine_deck::find` meets its contract.
 -- Assumes nothing.
 use borrow.Author.Needs.{needs}
 use borrow.Author.Tests.{le-ltb, lt-ltb}
 use Rattle.rules.specs.Answers.{findAnswer, findRefusal}
 use Rattle.proper.proofs.Judged.{is-wrong, is-right, is-proper}
-use Rattle.engine.proofs.find.Statement.{statement}
-use Rattle.engine.proofs.find.Tie as tie
+use Rattle.engine_deck.proofs.find.Statement.{statement}
+use Rattle.engine_deck.proofs.find.Tie as tie
 
 is-proper-requires : tie.Need-is-proper-requires
 is-proper-requires c κs = search needs

@@ -1,10 +1,10 @@
--- `engine::heights` meets its contract.
+-- `engine_table::heights` meets its contract.
 -- Assumes nothing.
 use borrow.Author.Needs.{needs}
 use Rattle.rules.specs.Answers.{heightsAnswer, improper}
 use Rattle.proper.proofs.Judged.{is-wrong, is-right}
-use Rattle.engine.proofs.heights.Statement.{statement}
-use Rattle.engine.proofs.heights.Tie as tie
+use Rattle.engine_table.proofs.heights.Statement.{statement}
+use Rattle.engine_table.proofs.heights.Tie as tie
 
 is-proper-requires : tie.Need-is-proper-requires
 is-proper-requires c κs = search needs

@@ -1,10 +1,10 @@
--- `engine::is_win` meets its contract.
+-- `engine_table::is_win` meets its contract.
 -- Assumes nothing.
 use borrow.Author.Needs.{needs}
 use Rattle.rules.specs.Answers.{winAnswer, improper, told, isWin}
 use Rattle.proper.proofs.Judged.{is-wrong, is-right}
-use Rattle.engine.proofs.is_win.Statement.{statement}
-use Rattle.engine.proofs.is_win.Tie as tie
+use Rattle.engine_table.proofs.is_win.Statement.{statement}
+use Rattle.engine_table.proofs.is_win.Tie as tie
 
 is-proper-requires : tie.Need-is-proper-requires
 is-proper-requires c κs = search needs

@@ -1,11 +1,11 @@
--- `engine::is_sure_win` meets its contract.
+-- `engine_table::is_sure_win` meets its contract.
 -- Assumes nothing.
 use borrow.Author.Needs.{needs}
 use borrow.Author.Tests.{le-leb, lt-leb}
 use Rattle.rules.specs.Answers.{sureWinAnswer, improper, told, isSureWin}
 use Rattle.proper.proofs.Judged.{is-wrong, is-right}
-use Rattle.engine.proofs.is_sure_win.Statement.{statement}
-use Rattle.engine.proofs.is_sure_win.Tie as tie
+use Rattle.engine_table.proofs.is_sure_win.Statement.{statement}
+use Rattle.engine_table.proofs.is_sure_win.Tie as tie
 
 is-proper-requires : tie.Need-is-proper-requires
 is-proper-requires c κs = search needs

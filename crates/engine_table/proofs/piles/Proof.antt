@@ -1,12 +1,12 @@
--- `engine::piles` meets its contract.
+-- `engine_table::piles` meets its contract.
 -- Assumes nothing.
 use borrow.Author.Needs.{needs}
 use borrow.Author.Tests.{le-ltb, lt-ltb}
 use mathlib.Core.Path.{refl}
 use Rattle.rules.specs.Answers.{pilesAnswer, pilesRefusal, pilesBuffer}
 use Rattle.proper.proofs.Judged.{is-wrong, is-right, is-proper}
-use Rattle.engine.proofs.piles.Statement.{statement}
-use Rattle.engine.proofs.piles.Tie as tie
+use Rattle.engine_table.proofs.piles.Statement.{statement}
+use Rattle.engine_table.proofs.piles.Tie as tie
 
 is-proper-requires : tie.Need-is-proper-requires
 is-proper-requires c κs = search needs

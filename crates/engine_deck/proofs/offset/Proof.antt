@@ -1,11 +1,11 @@
--- `engine::offset` meets its contract.
+-- `engine_deck::offset` meets its contract.
 -- Assumes nothing.
 use borrow.Author.Needs.{needs}
 use Rattle.rules.specs.Answers.{offsetAnswer, improper}
 use Rattle.rules.proofs.Facts.{facts}
 use Rattle.proper.proofs.Judged.{is-wrong, is-right, is-proper}
-use Rattle.engine.proofs.offset.Statement.{statement}
-use Rattle.engine.proofs.offset.Tie as tie
+use Rattle.engine_deck.proofs.offset.Statement.{statement}
+use Rattle.engine_deck.proofs.offset.Tie as tie
 
 is-proper-requires : tie.Need-is-proper-requires
 is-proper-requires c κs = search needs

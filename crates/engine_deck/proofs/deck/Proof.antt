@@ -1,12 +1,12 @@
--- `engine::deck` meets its contract.
+-- `engine_deck::deck` meets its contract.
 -- Assumes nothing.
 use borrow.Author.Needs.{needs}
 use native.Mathlib.Omega.{arith}
 use Rattle.rules.specs.Answers.{deckAnswer, improper}
 use Rattle.rules.proofs.Facts.{facts}
 use Rattle.proper.proofs.Judged.{is-wrong, is-right, is-proper}
-use Rattle.engine.proofs.deck.Statement.{statement}
-use Rattle.engine.proofs.deck.Tie as tie
+use Rattle.engine_deck.proofs.deck.Statement.{statement}
+use Rattle.engine_deck.proofs.deck.Tie as tie
 
 is-proper-requires : tie.Need-is-proper-requires
 is-proper-requires c κs = search needs
