@@ -22,7 +22,7 @@ use Rattle.rules.proofs.Searches.{any-ext}
 use Rattle.rules.proofs.ProperLaw.{locked-is}
 use Rattle.proper.specs.Masks.{pairsFit}
 use Rattle.proper.proofs.Judge.{pairs-were, seven-was}
-use Rattle.proper.proofs.Laws.{ones-mask}
+use Rattle.proper_sets.proofs.Laws.{ones-mask}
 use Rattle.proper.proofs.Tricks.{empty-mask}
 use Rattle.code.specs.declared.Sets.{Sets}
 use Rattle.code.specs.Resuming.{setsOf, worked, arrangeRefusal}

@@ -24,7 +24,7 @@ use Rattle.rules.proofs.ProperMade.{Numbers, any-none}
 use Rattle.rules.proofs.PileField.{table-ext, field-low}
 use Rattle.rules.proofs.Digits.{below4, has-bit, stored-fits, code-fits}
 use Rattle.rules.proofs.DealLaw.{cards-low}
-use Rattle.proper.specs.Masks.{stacked}
+use Rattle.proper_sets.specs.Masks.{stacked}
 use Rattle.code.specs.Resuming.{Ranged}
 use Rattle.code.proofs.Arranging.{all-not}
 

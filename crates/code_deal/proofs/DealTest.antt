@@ -14,9 +14,9 @@ use Rattle.rules.specs.Bits.{anyOf, allOf}
 use Rattle.rules.specs.Proper.{areCards, areDifferent}
 use Rattle.rules.proofs.Searches.{all-yes, yes-all, yes-any, is-false}
 use Rattle.rules.specs.Hidden.{cardsFrom}
-use Rattle.proper.proofs.DealRight.{deal-is, small-of}
+use Rattle.proper_sets.proofs.DealRight.{deal-is, small-of}
 use Rattle.rules.proofs.DealLaw.{cards-low}
-use Rattle.proper.proofs.Sets.{cards-are}
+use Rattle.proper_sets.proofs.Sets.{cards-are}
 
 abbrev Small : List ℕ → Bool
 Small d = allOf 52 (λ k. ltb (getD d k 0) 64)

@@ -7,8 +7,8 @@ use Rattle.rules.specs.Bits.{maskOf}
 use Rattle.rules.specs.Places.{count, height, cardAt, pileCard, deckCard, isBuried, hasHead, head, isHead, inDeck, onFoundation}
 use Rattle.rules.proofs.Shape.{shape}
 use Rattle.rules.specs.Hidden.{buriedIn, headIn}
-use Rattle.proper.specs.Masks.{stacked}
-use Rattle.proper.proofs.Sets.{cards-are}
+use Rattle.proper_sets.specs.Masks.{stacked}
+use Rattle.proper_sets.proofs.Sets.{cards-are}
 use Rattle.code.specs.Resuming.{setsOf}
 use Rattle.code.proofs.sets_of.Statement.{statement}
 use Rattle.code.proofs.sets_of.Tie as tie
