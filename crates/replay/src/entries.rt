@@ -1,11 +1,11 @@
 // Tags 9, 10, 11 and 13: a few calls in one record, each with its own entry.
 ghost use Prim.Native.Nat.{_<_};
-use replay_rows::Answer;
+use replay_bytes::Answer;
+use replay_bytes::record::SIZE;
+use replay_bytes::record::byte;
+use replay_bytes::record::put;
+use replay_bytes::record::put_4;
 use replay_rows::read;
-use replay_rows::record::SIZE;
-use replay_rows::record::byte;
-use replay_rows::record::put;
-use replay_rows::record::put_4;
 use rules::Cursor;
 use rules::Position;
 
@@ -73,7 +73,7 @@ fn one(a: Answer, p: Position, tag: u8, row: [u8; 64], at: usize) -> Answer
         OFFSETS => offset(p, row, out, at),
         _ => cursor(row, out, at),
     };
-    replay_rows::marked(b, a.kept)
+    replay_bytes::marked(b, a.kept)
 }
 
 // The bytes of an entry.

@@ -1,17 +1,17 @@
 // Tags 6 and 7: the move listing and the face-up piles, in lent buffers.
-use replay_rows::Answer;
+use replay_bytes::Answer;
+use replay_bytes::marked;
+use replay_bytes::record::byte;
+use replay_bytes::record::put;
+use replay_bytes::record::put_short;
+use replay_bytes::record::small;
 use replay_rows::laid::FILL;
 use replay_rows::laid::FILL_SLOT;
 use replay_rows::laid::N_BYTES;
 use replay_rows::laid::N_LIST;
 use replay_rows::laid::put_front;
 use replay_rows::laid::put_shown;
-use replay_rows::marked;
 use replay_rows::read;
-use replay_rows::record::byte;
-use replay_rows::record::put;
-use replay_rows::record::put_short;
-use replay_rows::record::small;
 use replay_rows::same::same;
 use rules::Position;
 
@@ -26,7 +26,7 @@ pub fn list(p: Position, row: [u8; 64], out: [u8; 64]) -> Answer {
     let pruned = byte(row, 2) == 1;
     let room = small(row, 3);
     if N_LIST < room {
-        return replay_rows::unasked(out);
+        return replay_bytes::unasked(out);
     }
     let mut slots = [FILL_SLOT; N_LIST];
     let count = engine::list(p, pruned, &mut slots[..room]).len();
@@ -36,7 +36,7 @@ pub fn list(p: Position, row: [u8; 64], out: [u8; 64]) -> Answer {
 pub fn face_up(p: Position, row: [u8; 64], out: [u8; 64]) -> Answer {
     let room = small(row, 2);
     if N_BYTES < room {
-        return replay_rows::unasked(out);
+        return replay_bytes::unasked(out);
     }
     let mut bytes = [FILL; N_BYTES];
     let a = engine::piles(p, &mut bytes[..room]);

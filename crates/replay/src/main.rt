@@ -6,11 +6,11 @@ mod plays;
 mod starts;
 mod views;
 
-use replay_rows::Answer;
-use replay_rows::record;
-use replay_rows::record::byte;
-use replay_rows::report;
-use replay_rows::report::Tally;
+use replay_bytes::Answer;
+use replay_bytes::record;
+use replay_bytes::record::byte;
+use replay_bytes::report;
+use replay_bytes::report::Tally;
 use replay_rows::set;
 use replay_rows::table;
 use replay_rows::table::Table;
@@ -30,7 +30,7 @@ fn read(p: Position, tag: u8, row: [u8; 64], out: [u8; 64]) -> Answer {
         8 => views::view(p, out),
         9 | 10 | 11 | 13 => entries::several(p, tag, row, out),
         12 => starts::ladder(p, row, out),
-        _ => replay_rows::unasked(out),
+        _ => replay_bytes::unasked(out),
     }
 }
 

@@ -1,17 +1,17 @@
 // Tags 3 and 4: a move and an undo over the history.
 ghost use Prim.Native.Nat.{_≤_};
 use crate::starts;
-use replay_rows::Answer;
+use replay_bytes::Answer;
+use replay_bytes::marked;
+use replay_bytes::record::byte;
+use replay_bytes::record::put;
+use replay_bytes::record::put_long;
+use replay_bytes::record::put_short;
+use replay_bytes::record::short;
 use replay_rows::history;
 use replay_rows::history::N_SLOTS;
 use replay_rows::laid::put_move;
-use replay_rows::marked;
 use replay_rows::read;
-use replay_rows::record::byte;
-use replay_rows::record::put;
-use replay_rows::record::put_long;
-use replay_rows::record::put_short;
-use replay_rows::record::short;
 use replay_rows::table;
 use replay_rows::table::Table;
 use replay_rows::table::moved;
@@ -65,7 +65,7 @@ fn tried(
 pub fn make(t: Table, row: [u8; 64], out: [u8; 64]) -> Table {
     let room = short(row, 4);
     if N_SLOTS < room {
-        return table::with(t, replay_rows::unasked(out));
+        return table::with(t, replay_bytes::unasked(out));
     }
     let before = t.history;
     tried(t.position, before, room, short(row, 6), row, out)
@@ -84,7 +84,7 @@ pub fn undo(t: Table, row: [u8; 64], out: [u8; 64]) -> Table {
     let room = short(row, 4);
     let count = short(row, 6);
     if N_SLOTS < room {
-        return table::with(t, replay_rows::unasked(out));
+        return table::with(t, replay_bytes::unasked(out));
     }
     let before = t.history;
     let slots = history::with_entry(before, room, count, short(row, 2) as u16);

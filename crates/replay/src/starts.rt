@@ -1,16 +1,16 @@
 // Tags 1, 2 and 12: a deal, a resume, and the ladder with a resumed position.
 ghost use Prim.Native.Nat.{_<_};
-use replay_rows::Answer;
-use replay_rows::marked;
+use replay_bytes::Answer;
+use replay_bytes::marked;
+use replay_bytes::record::SIZE;
+use replay_bytes::record::byte;
+use replay_bytes::record::difference;
+use replay_bytes::record::long;
+use replay_bytes::record::part;
+use replay_bytes::record::put;
+use replay_bytes::record::put_long;
+use replay_bytes::record::small;
 use replay_rows::read;
-use replay_rows::record::SIZE;
-use replay_rows::record::byte;
-use replay_rows::record::difference;
-use replay_rows::record::long;
-use replay_rows::record::part;
-use replay_rows::record::put;
-use replay_rows::record::put_long;
-use replay_rows::record::small;
 use replay_rows::same::same;
 use replay_rows::set;
 use replay_rows::table::Table;

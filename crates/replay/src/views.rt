@@ -1,12 +1,12 @@
 // Tags 5 and 8: the masks, and what can be seen at once.
-use replay_rows::Answer;
+use replay_bytes::Answer;
+use replay_bytes::record::byte;
+use replay_bytes::record::copy;
+use replay_bytes::record::put;
+use replay_bytes::record::put_long;
 use replay_rows::laid::put_deck;
 use replay_rows::laid::put_masks;
 use replay_rows::read;
-use replay_rows::record::byte;
-use replay_rows::record::copy;
-use replay_rows::record::put;
-use replay_rows::record::put_long;
 use replay_rows::same::same;
 use rules::Position;
 use rules::Told;

@@ -1,14 +1,14 @@
 // Where the engine's answers lie in a record.
 ghost use Prim.Native.Nat.{_<_, _≤_};
-use crate::Answer;
-use crate::record::all_are;
-use crate::record::copy;
-use crate::record::get;
-use crate::record::part;
-use crate::record::put;
-use crate::record::put_long;
-use crate::record::put_short;
-use crate::record::wide;
+use replay_bytes::Answer;
+use replay_bytes::record::all_are;
+use replay_bytes::record::copy;
+use replay_bytes::record::get;
+use replay_bytes::record::part;
+use replay_bytes::record::put;
+use replay_bytes::record::put_long;
+use replay_bytes::record::put_short;
+use replay_bytes::record::wide;
 use rules::Masks;
 use rules::TurnedUp;
 
@@ -66,7 +66,7 @@ fn put_slot(a: Answer, slots: [u16; 28], count: usize, i: usize) -> Answer
             kept: a.kept,
         };
     }
-    crate::marked(a, slot == FILL_SLOT)
+    replay_bytes::marked(a, slot == FILL_SLOT)
 }
 
 pub fn put_front(a: Answer, slots: [u16; 28], count: usize) -> Answer {
@@ -88,7 +88,7 @@ fn put_pile(a: Answer, at: usize, bytes: &[u8], p: usize, n: usize) -> Answer
         bytes: copy(bytes, ROW * p, out, at, n),
         kept: a.kept,
     };
-    crate::marked(after, all_are(part(bytes, ROW * p + n, ROW - n), UNUSED))
+    replay_bytes::marked(after, all_are(part(bytes, ROW * p + n, ROW - n), UNUSED))
 }
 
 // Writes the cards of the piles, one pile after the other.
@@ -99,7 +99,7 @@ fn put_piles(a: Answer, bytes: &[u8], lengths: &[u8]) -> Answer {
     while p < N_PILES {
         let n = wide(get(lengths, p));
         if ROW < n {
-            return crate::marked(after, false);
+            return replay_bytes::marked(after, false);
         }
         after = put_pile(after, at, bytes, p, n);
         at += n;

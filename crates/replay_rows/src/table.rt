@@ -1,8 +1,8 @@
 // The position and the history that the records' calls act on, and the answer to the record at hand.
 // It goes from function to function by value: that proves faster than lent memory.
-use crate::Answer;
 use crate::same::blank;
 use crate::same::same;
+use replay_bytes::Answer;
 use rules::Position;
 use rules::Started;
 
@@ -22,7 +22,7 @@ fn begun(p: Position, a: Answer) -> Table {
 }
 
 pub fn new() -> Table {
-    begun(blank(), crate::unasked([0u8; 64]))
+    begun(blank(), replay_bytes::unasked([0u8; 64]))
 }
 
 // After a call that changes nothing.
@@ -34,7 +34,7 @@ pub fn with(mut t: Table, a: Answer) -> Table {
 // After a deal or a resume: the new position with nothing done, or the old one, and then the call's position must be blank.
 pub fn started(t: Table, s: Started, a: Answer) -> Table {
     if s.refusal != 0 {
-        return with(t, crate::marked(a, same(s.position, blank())));
+        return with(t, replay_bytes::marked(a, same(s.position, blank())));
     }
     begun(s.position, a)
 }

@@ -1,9 +1,9 @@
--- `replay_rows::record::copy` is safe and ends.
+-- `replay_bytes::record::copy` is safe and ends.
 -- Assumes nothing.
 use borrow.Author.Needs.{needs}
 use Prim.Native.Nat.{_-_}
-use Rattle.replay_rows.proofs.record.copy.Statement.{statement}
-use Rattle.replay_rows.proofs.record.copy.Tie as tie
+use Rattle.replay_bytes.proofs.record.copy.Statement.{statement}
+use Rattle.replay_bytes.proofs.record.copy.Tie as tie
 
 abbrev Inv-loop : tie.InvT-loop
 Inv-loop src from to n out₀ i₀ out i = Unit {0}

@@ -1,9 +1,9 @@
--- `replay_rows::record::difference` is safe and ends.
+-- `replay_bytes::record::difference` is safe and ends.
 -- Assumes nothing.
 use borrow.Author.Needs.{needs}
 use Prim.Native.Nat.{_-_}
-use Rattle.replay_rows.proofs.record.difference.Statement.{statement}
-use Rattle.replay_rows.proofs.record.difference.Tie as tie
+use Rattle.replay_bytes.proofs.record.difference.Statement.{statement}
+use Rattle.replay_bytes.proofs.record.difference.Tie as tie
 
 abbrev Inv-loop : tie.InvT-loop
 Inv-loop row out i₀ i = Unit {0}

@@ -1,9 +1,9 @@
--- `replay_rows::report::lines` is safe and ends.
+-- `replay_bytes::report::lines` is safe and ends.
 -- Assumes nothing.
 use borrow.Author.Needs.{needs}
 use Prim.Native.Nat.{_-_}
-use Rattle.replay_rows.proofs.report.lines.Statement.{statement}
-use Rattle.replay_rows.proofs.report.lines.Tie as tie
+use Rattle.replay_bytes.proofs.report.lines.Statement.{statement}
+use Rattle.replay_bytes.proofs.report.lines.Tie as tie
 
 abbrev Inv-loop : tie.InvT-loop
 Inv-loop of-tag wrong-of-tag tag₀ tag = Unit {0}
