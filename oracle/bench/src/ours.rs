@@ -1,34 +1,10 @@
 //! The exported inner calls, and the position as they take it.
 
-#[repr(C)]
-#[derive(Clone, Copy, PartialEq, Debug)]
-pub struct Position {
-    pub deal: [u8; 52],
-    pub step: u8,
-    pub counts: [u8; 7],
-    pub heights: [u8; 4],
-    pub deck: [u8; 24],
-    pub left: u8,
-    pub offset: u8,
-    pub visible: u64,
-}
-
-#[repr(C)]
-#[derive(Clone, Copy, PartialEq, Debug)]
-pub struct Masks {
-    pub reveal: u64,
-    pub pile_stack: u64,
-    pub deck_pile: u64,
-    pub deck_stack: u64,
-    pub stack_pile: u64,
-}
-
-#[repr(C)]
-#[derive(Clone, Copy)]
-pub struct Started {
-    pub refusal: u8,
-    pub position: Position,
-}
+// The records that cross are those of the Rust wrappers; their library is not linked here.
+#[allow(dead_code)]
+#[path = "../../gravyhelm/src/types.rs"]
+mod types;
+pub use types::{Masks, Position, Started};
 
 #[repr(C)]
 #[derive(Clone, Copy)]
@@ -56,30 +32,14 @@ extern "C" {
 
 impl From<&model::types::Position> for Position {
     fn from(p: &model::types::Position) -> Self {
-        Self {
-            deal: p.deal,
-            step: p.step,
-            counts: p.counts,
-            heights: p.heights,
-            deck: p.deck,
-            left: p.left,
-            offset: p.offset,
-            visible: p.visible,
-        }
+        let model::types::Position { deal, step, counts, heights, deck, left, offset, visible } = *p;
+        Self { deal, step, counts, heights, deck, left, offset, visible }
     }
 }
 
 impl From<&Position> for model::types::Position {
     fn from(p: &Position) -> Self {
-        Self {
-            deal: p.deal,
-            step: p.step,
-            counts: p.counts,
-            heights: p.heights,
-            deck: p.deck,
-            left: p.left,
-            offset: p.offset,
-            visible: p.visible,
-        }
+        let Position { deal, step, counts, heights, deck, left, offset, visible } = *p;
+        Self { deal, step, counts, heights, deck, left, offset, visible }
     }
 }

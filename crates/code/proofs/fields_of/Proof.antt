@@ -41,7 +41,9 @@ cast-t14 c = search needs
 
 returns : tie.Need-returns
 unfolding fieldsOf codePiles codeOffset
-returns c = rw (and-mask (c .args .code) 16, and-mask (c .args .code / 2 ^ 16) 16, and-mask (c .args .code / 2 ^ 32) 24)
+returns c =
+    let x = c .args .code in
+    λ i. record { heights = and-mask x 16 i; piles = and-mask (x / 2 ^ 16) 16 i; deck = and-mask (x / 2 ^ 32) 24 i; offset = codeOffset x }
 
 pub fields-of-spec : {M : Type 1} → statement M
 fields-of-spec =

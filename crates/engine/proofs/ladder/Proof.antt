@@ -48,13 +48,17 @@ both c =
     let s = c .before .before .before .before in
     (is-right (s .args .p) (c .before .before .before .is-proper .ensures) (c .before .before .if1 .left), is-right (s .args .q) (c .before .is-proper2 .ensures) (c .if2 .left))
 
+-- and not of one deal
+apart : (c : tie.Then3) → sameList (c .before .before .before .before .before .before .args .p .deal) (c .before .before .before .before .before .before .args .q .deal) ≡ false
+apart c = sym (c .before .same-deal .ensures) ∙ not-true (c .before .same-deal .result) (c .if3 .taken)
+
 returns-3 : tie.Need-returns-3
 unfolding ladderAnswer ladderRefusal ladderSame
 returns-3 c =
     let b = both (c .before .before .before) in
-    rw (b .0, b .1, sym (c .before .before .same-deal .ensures) ∙ not-true (c .before .before .same-deal .result) (c .before .if3 .taken)) (c .unranked3 .ensures)
+    rw (b .0, b .1, apart (c .before)) (c .unranked3 .ensures)
 
--- and of one deal
+-- or of one deal
 dealt : (c : tie.Else3) → sameList (c .before .before .before .before .before .before .args .p .deal) (c .before .before .before .before .before .before .args .q .deal) ≡ true
 dealt c = sym (c .before .same-deal .ensures) ∙ not-false (c .before .same-deal .result) (c .if3 .left)
 
@@ -66,7 +70,8 @@ unfolding ladderAnswer ladderRefusal ladderSame
 returns-4 c =
     let e = c .before .before .before .before in
     let b = both (e .before .before) in
-    rw (b .0, b .1, dealt e, ne-eqb _ _ (c .before .if4 .taken)) (c .unranked4 .ensures)
+    let a = e .before .before .before .before .before .before .args in
+    rw (b .0, b .1, dealt e, ne-eqb (a .p .step) (a .q .step) (c .before .if4 .taken)) (c .unranked4 .ensures)
 
 encode-requires : tie.Need-encode-requires
 encode-requires c κs = is-proper (c .before .before .before .before .before .before .before .before .before .args .p) (c .before .before .before .before .before .before .before .before .is-proper .ensures) (c .before .before .before .before .before .before .before .if1 .left)

@@ -53,7 +53,7 @@ unfolding moveAnswer moveHistory moveRefusal isKindAndCard
 returns-3 c =
     let t = c .before in
     let e = t .before in
-    rw (right (e .before), le-ltb _ _ (e .if2 .left), lt-leb _ _ (t .if3 .taken)) (c .no-move3 .ensures, refl)
+    rw (right (e .before), le-ltb _ _ (e .if2 .left), lt-leb _ 4 (t .if3 .taken)) (c .no-move3 .ensures, refl)
 
 no-move-requires-4 : tie.Need-no-move-requires-4
 no-move-requires-4 c κs = search needs
@@ -64,7 +64,7 @@ returns-4 c =
     let t = c .before in
     let k = t .before in
     let e = k .before in
-    rw (right (e .before), le-ltb _ _ (e .if2 .left), le-leb _ _ (k .if3 .left), lt-leb _ _ (t .if4 .taken)) (c .no-move4 .ensures, refl)
+    rw (right (e .before), le-ltb _ _ (e .if2 .left), le-leb _ _ (k .if3 .left), lt-leb _ 51 (t .if4 .taken)) (c .no-move4 .ensures, refl)
 
 is-valid-move-requires : tie.Need-is-valid-move-requires
 is-valid-move-requires c κs = (true-T _ (right (c .before .before .before)), omega arith, omega arith)

@@ -1,6 +1,9 @@
 -- `engine_lists::masks` meets its contract.
 -- Assumes nothing.
 use borrow.Author.Needs.{needs}
+use mathlib.Core.Path.{ap}
+use Rattle.rules.specs.declared.Masked.{Masked}
+use Rattle.rules.specs.declared.Masks.{Masks}
 use Rattle.rules.specs.Answers.{masksAnswer, improper}
 use Rattle.proper.proofs.Judged.{is-wrong, is-right, is-proper}
 use Rattle.engine_lists.proofs.masks.Statement.{statement}
@@ -21,7 +24,9 @@ hints-requires c κs = is-proper (c .before .before .before .args .p) (c .before
 
 returns-2 : tie.Need-returns-2
 unfolding masksAnswer improper
-returns-2 c = rw (is-right (c .before .before .before .before .args .p) (c .before .before .is-proper .ensures) (c .before .if1 .left), c .hints .ensures)
+returns-2 c =
+    let p = c .before .before .before .before .args .p in
+    rw (is-right p (c .before .before .is-proper .ensures) (c .before .if1 .left)) (ap {B = Masked} (λ (m : Masks). record { refusal = 0; position = p; masks = m }) (c .hints .ensures))
 
 pub masks-spec : {M : Type 1} → statement M
 masks-spec = tie.close (tie.spec no-masks-requires is-proper-requires returns hints-requires returns-2)

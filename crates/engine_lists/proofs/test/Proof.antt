@@ -19,12 +19,12 @@ returns c = rw (is-wrong (c .before .before .args .p) (c .before .is-proper .ens
 returns-2 : tie.Need-returns-2
 unfolding testAnswer testRefusal told isKindAndCard
 returns-2 c =
-    rw (is-right (c .before .before .before .args .p) (c .before .before .is-proper .ensures) (c .before .if1 .left), lt-leb _ _ (c .if2 .taken))
+    rw (is-right (c .before .before .before .args .p) (c .before .before .is-proper .ensures) (c .before .if1 .left), lt-leb _ 4 (c .if2 .taken))
 
 returns-3 : tie.Need-returns-3
 unfolding testAnswer testRefusal told isKindAndCard
 returns-3 c =
-    rw (is-right (c .before .before .before .before .args .p) (c .before .before .before .is-proper .ensures) (c .before .before .if1 .left), le-leb _ _ (c .before .if2 .left), lt-leb _ _ (c .if3 .taken))
+    rw (is-right (c .before .before .before .before .args .p) (c .before .before .before .is-proper .ensures) (c .before .before .if1 .left), le-leb _ _ (c .before .if2 .left), lt-leb _ 51 (c .if3 .taken))
 
 is-valid-move-requires : tie.Need-is-valid-move-requires
 is-valid-move-requires c κs = (is-proper (c .before .before .before .before .args .p) (c .before .before .before .is-proper .ensures) (c .before .before .if1 .left), omega arith, omega arith)

@@ -17,7 +17,7 @@ returns c = rw (is-wrong (c .before .before .args .p) (c .before .is-proper .ens
 returns-2 : tie.Need-returns-2
 unfolding sureWinAnswer improper told isSureWin
 returns-2 c =
-    rw (is-right (c .before .before .before .before .before .args .p) (c .before .before .before .before .is-proper .ensures) (c .before .before .before .if1 .left), lt-leb _ _ (c .if2 .taken))
+    rw (is-right (c .before .before .before .before .before .args .p) (c .before .before .before .before .is-proper .ensures) (c .before .before .before .if1 .left), lt-leb _ 1 (c .if2 .taken))
 
 is-all-up-requires : tie.Need-is-all-up-requires
 is-all-up-requires c κs = search needs

@@ -18,7 +18,7 @@ returns c = rw (is-wrong (c .before .before .before .args .p) (c .before .is-pro
 returns-2 : tie.Need-returns-2
 unfolding pilesAnswer pilesRefusal pilesBuffer
 returns-2 c =
-    rw (is-right (c .before .before .before .before .args .p) (c .before .before .is-proper .ensures) (c .before .if1 .left), lt-ltb _ _ (c .if2 .taken)) (refl, refl)
+    rw (is-right (c .before .before .before .before .args .p) (c .before .before .is-proper .ensures) (c .before .if1 .left), lt-ltb _ 91 (c .if2 .taken)) (refl, refl)
 
 compute-visible-piles-requires : tie.Need-compute-visible-piles-requires
 compute-visible-piles-requires c κs =
