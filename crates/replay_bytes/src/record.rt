@@ -119,19 +119,16 @@ pub fn put_long(out: [u8; 64], at: usize, x: u64) -> [u8; 64]
     put_half(put_half(out, at, x), at + 4, x >> 32)
 }
 
-// Copies n bytes of a slice: inputs, or an answer's bytes.
-pub fn copy(src: &[u8], from: usize, mut out: [u8; 64], to: usize, n: usize) -> [u8; 64]
-    requires { ⌜ (from < 128) × (to < 128) × (n < 64) ⌝ }
-{
-    let mut i: usize = 0;
-    while i < n {
-        let b = get(src, from + i);
-        let at = to + i;
-        if at < SIZE {
-            out[at] = b;
-        }
-        i += 1;
+// Copies n bytes of a slice: inputs, or an answer's bytes. Where there are not so many, or no room for them, it copies none.
+pub fn copy(src: &[u8], from: usize, mut out: [u8; 64], to: usize, n: usize) -> [u8; 64] {
+    let taken = part(src, from, n);
+    if SIZE < to {
+        return out;
     }
+    if SIZE - to < taken.len() {
+        return out;
+    }
+    bytes::copy(taken, &mut out[to..to + taken.len()]);
     out
 }
 
