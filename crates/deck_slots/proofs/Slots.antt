@@ -1,12 +1,13 @@
 -- The deck's slots filled from the front, and what they hold after a card went out or came in.
 -- Assumes nothing.
 use mathlib.Core.Path.{_≡_, refl, sym, ap, ap₂, _∙_}
-use mathlib.Core.List.{List, [], _∷_, _++_, append-assoc}
+use mathlib.Core.List.{List, [], _∷_, _++_, append-assoc, append-nil}
 use Prim.Native.Nat.{ℕ, suc, _+_, _-_, _≤_, _<_}
 use native.Mathlib.Numerals.{add-one}
 use native.Mathlib.Omega.{arith}
 use lib.ListN.{length, getD, take, drop, set, replicate, length-append, length-drop, length-replicate, replicate-append-replicate}
-use lib.Seq.{length-take-le, take-all, take-suc, take-at, drop-at, set-at, split-at, getD-take, take-take, take-add, drop-append-add, append-snoc, paste}
+use lib.Seq.{length-take-le, drop-length, drop-drop, take-all, take-suc, take-at, drop-at, set-at, split-at, getD-take, take-take, take-add, drop-append-add, append-snoc, paste}
+use borrow.Rule.Slice.PartMut.{midOf, putMid}
 use Rattle.rules.specs.Play.{slots, drawAt, pushAt}
 use Rattle.rules.proofs.SlotsLaw.{slots-front}
 
@@ -40,6 +41,20 @@ fill-end xs j e l =
 pub padded : (xs : List ℕ) (j : ℕ) → length xs ≡ j → j ≤ 24 → slots xs ≡ xs ++ replicate (24 - j) 0
 unfolding filled
 padded xs j e l = sym (fill-end xs j e l) ∙ ap (λ (l : List ℕ). l ++ replicate (24 - j) 0) (take-all j xs (omega arith))
+
+-- a part of d, copied over a part of s that is as long
+pub pasted : (d s : List ℕ) (from to n : ℕ) → from + n ≤ length d → to + n ≤ length s
+    → putMid to (to + n - to) s (take (length (midOf from (from + n - from) d)) (midOf from (from + n - from) d) ++ drop (length (midOf from (from + n - from) d)) (midOf to (to + n - to) s)) ≡ paste s to (drop from d) n
+pasted d s from to n hd hs =
+    let src : List ℕ = take n (drop from d) in
+    let dst : List ℕ = take n (drop to s) in
+    let here : from + n - from ≡ n = omega arith in
+    let there : to + n - to ≡ n = omega arith in
+    let long : length src ≡ n = length-take-le n (drop from d) (omega (arith, length-drop from d)) in
+    let room : length dst ≡ n = length-take-le n (drop to s) (omega (arith, length-drop to s)) in
+    let whole : take (length src) src ++ drop (length src) dst ≡ src =
+    ap₂ (λ (a b : List ℕ). a ++ b) (take-all (length src) src (omega arith)) (ap (λ (k : ℕ). drop k dst) (long ∙ sym room) ∙ drop-length dst) ∙ append-nil src in
+    rw (here, there) (ap₂ (λ (a b : List ℕ). take to s ++ (a ++ b)) whole (drop-drop n to s) ∙ sym (append-assoc (take to s) src (drop (to + n) s)))
 
 -- cards copied behind those in front of a deck's slots
 pub copied : (ys d : List ℕ) (from to n : ℕ) → length ys ≡ to → from + n ≤ length d → to + n ≤ 24 → paste (slots ys) to (drop from d) n ≡ slots (ys ++ take n (drop from d))

@@ -13,11 +13,7 @@ fn copy(deck: &[u8], from: usize, out: &mut [u8], to: usize, n: usize)
     requires { ⌜ (from + n ≤ length (now deck)) × (to + n ≤ length (now out)) ⌝ }
     ensures { λ _. ⌜ now (out .exit) ≡ paste (now (out .entry)) to (drop from (now (deck .entry))) n ⌝ }
 {
-    let mut i: usize = 0;
-    while i < n {
-        out[to + i] = deck[from + i];
-        i += 1;
-    }
+    bytes::copy(&deck[from..from + n], &mut out[to..to + n]);
 }
 
 // The cards left alone: spare slots are 0.

@@ -1,74 +1,61 @@
 -- `deck_slots::copy` meets its contract.
 -- Assumes nothing.
-use mathlib.Core.Path.{_≡_, sym, ap, _∙_}
-use Prim.Native.Nat.{ℕ, _+_, _-_, _≤_}
-use native.Mathlib.Numerals.{add-one}
+use mathlib.Core.Path.{ap, _∙_}
+use Prim.Native.Nat.{_+_, _-_}
 use native.Mathlib.Omega.{arith}
-use lib.ListN.{length, getD, drop, set, length-drop}
-use lib.Seq.{paste, paste-zero, paste-suc, getD-drop}
+use borrow.Rule.Slice.PartMut.{putMid}
+use Rattle.deck_slots.proofs.Slots.{pasted}
 use borrow.Author.Needs.{needs}
 use Rattle.deck_slots.proofs.copy.Statement.{statement}
 use Rattle.deck_slots.proofs.copy.Tie as tie
 
-abbrev Inv-loop : tie.InvT-loop
-Inv-loop deck from out₀ to n i₀ out i = (i ≤ n) × (length out ≡ length out₀) × (out ≡ paste out₀ to (drop from deck) i)
+add-copy : tie.Need-add-copy
+add-copy c = search needs
 
-abbrev μ-loop : tie.MeasureT-loop
-μ-loop deck from out₀ to n i₀ out i = n - i
+sub-copy : tie.Need-sub-copy
+sub-copy c = search needs
 
-loop-holds : tie.Need-loop-holds Inv-loop μ-loop
-loop-holds c =
-    let a = c .args in
-    (search needs, search needs, paste-zero (a .out .now) (a .to) (drop (a .from) (a .deck .now)))
+part-copy-start : tie.Need-part-copy-start
+part-copy-start c = search needs
 
-add-out : tie.Need-add-out Inv-loop μ-loop
-add-out c = search needs
+part-copy-end : tie.Need-part-copy-end
+part-copy-end c = search needs
 
-shared-slice-read-out : tie.Need-shared-slice-read-out Inv-loop μ-loop
-shared-slice-read-out c = search needs
+add-copy-2 : tie.Need-add-copy-2
+add-copy-2 c = search needs
 
-add-out-2 : tie.Need-add-out-2 Inv-loop μ-loop
-add-out-2 c = search needs
+sub-copy-2 : tie.Need-sub-copy-2
+sub-copy-2 c = search needs
 
-slice-write-out : tie.Need-slice-write-out Inv-loop μ-loop
-slice-write-out c = search needs
+part-copy-start-2 : tie.Need-part-copy-start-2
+part-copy-start-2 c = search needs
 
-add-i : tie.Need-add-i Inv-loop μ-loop
-add-i c = search needs
+part-copy-end-2 : tie.Need-part-copy-end-2
+part-copy-end-2 c = search needs
 
-loop-less : tie.Need-loop-less Inv-loop μ-loop
-loop-less c = search needs
+copy-requires : tie.Need-copy-requires
+copy-requires c κs = search needs
 
-loop-again : tie.Need-loop-again Inv-loop μ-loop
-loop-again c =
-    let a = c .before .before .before .args in
-    let l = c .before .before .loop in
-    let s = drop (a .from) (a .deck .now) in
-    let read : getD (a .deck .now) (a .from + l .i) 0 ≡ getD s (l .i) 0 = sym (getD-drop (a .from) (a .deck .now) (l .i) 0) in
-    let long : length s ≡ length (a .deck .now) - a .from = length-drop (a .from) (a .deck .now) in
-    (search needs, search needs, rw (l .inv .2, read, add-one) (paste-suc (a .out .now) (a .to) s (l .i) 0 (omega arith) (omega arith)))
-
-same-length : tie.Need-same-length Inv-loop μ-loop
+same-length : tie.Need-same-length
 same-length c = search needs
 
-returns : tie.Need-returns Inv-loop μ-loop
+returns : tie.Need-returns
 returns c =
-    let e : c .before .loop .i ≡ c .before .before .args .n = omega arith in
-    c .before .loop .inv .2 ∙ rw e
+    let a = c .before .before .before .before .before .before .before .args in
+    ap (putMid (a .to) (a .to + a .n - a .to) (a .out .now)) (c .before .before .copy .ensures .1) ∙ pasted (a .deck .now) (a .out .now) (a .from) (a .to) (a .n) (omega arith) (omega arith)
 
 pub copy-spec : {M : Type 1} → statement M
 copy-spec =
     tie.close
     (tie.spec
-    Inv-loop
-    μ-loop
-    loop-holds
-    add-out
-    shared-slice-read-out
-    add-out-2
-    slice-write-out
-    add-i
-    loop-less
-    loop-again
+    add-copy
+    sub-copy
+    part-copy-start
+    part-copy-end
+    add-copy-2
+    sub-copy-2
+    part-copy-start-2
+    part-copy-end-2
+    copy-requires
     same-length
     returns)
