@@ -1,5 +1,5 @@
 // What the arrays of a position show, in one pass over each: whether the deal is one, whether the deck follows it, and the sets as masks.
-// Crate `proper` passes these names on.
+// Crate `proper` judges by it, and passes on the names that others use.
 ghost use mathlib.Core.Path.{_≡_};
 ghost use Prim.Native.Nat.{ℕ, _<_, _≤_};
 ghost use lib.Dec.{ltb};
