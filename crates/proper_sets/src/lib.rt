@@ -21,12 +21,6 @@ const N_PILES: usize = card::N_PILES as usize;
 
 const N_DECK_CARDS: usize = card::N_DECK_CARDS as usize;
 
-pub fn wide(x: u8) -> usize
-    ensures { λ r. ⌜ r ≡ x ⌝ }
-{
-    x as usize
-}
-
 // Every byte is below 64.
 pub fn all_small(cards: &[u8]) -> bool
     requires { ⌜ length (now cards) ≡ 52 ⌝ }
@@ -76,7 +70,7 @@ fn piles(deal: &[u8], counts: &[u8; 7]) -> PileSets
     let mut i: usize = 0;
     while i < N_PILES {
         let start = card::pile_start(i) as usize;
-        let n = wide(counts[i]);
+        let n = counts[i] as usize;
         let under = run[start + n - (0 < n) as usize];
         buried |= under ^ run[start];
         heads |= run[start + n] ^ under;

@@ -34,14 +34,14 @@ running-requires : tie.Need-running-requires Inv-loop μ-loop
 running-requires c κs = search needs
 
 -- the pile's count, and its places
-abbrev count-of : tie.After-wide Inv-loop μ-loop → ℕ
-count-of c = getD (c .before .before .before .before .before .before .before .args .counts .now) (c .before .before .before .before .loop .i) 0
+abbrev count-of : tie.After-n Inv-loop μ-loop → ℕ
+count-of c = getD (c .before .before .before .before .before .before .args .counts .now) (c .before .before .before .loop .i) 0
 
-fits : (c : tie.After-wide Inv-loop μ-loop) → count-of c ≤ c .before .before .before .before .loop .i + 1
-fits c = c .before .before .before .before .before .before .before .pre .1 (c .before .before .before .before .loop .i) (c .before .before .before .loop-test .taken)
+fits : (c : tie.After-n Inv-loop μ-loop) → count-of c ≤ c .before .before .before .loop .i + 1
+fits c = c .before .before .before .before .before .before .pre .1 (c .before .before .before .loop .i) (c .before .before .loop-test .taken)
 
-bound : (c : tie.After-wide Inv-loop μ-loop) → c .before .before .pile-start .result + c .wide .result ≤ 28
-bound c = in-piles (c .before .before .before .before .loop .i) (c .wide .result) (c .before .before .pile-start .result) (c .before .before .before .loop-test .taken) (omega (arith, fits c, c .wide .ensures)) (c .before .before .pile-start .ensures)
+bound : (c : tie.After-n Inv-loop μ-loop) → c .before .pile-start .result + count-of c ≤ 28
+bound c = in-piles (c .before .before .before .loop .i) (count-of c) (c .before .pile-start .result) (c .before .before .loop-test .taken) (fits c) (c .before .pile-start .ensures)
 
 loop-holds : tie.Need-loop-holds Inv-loop μ-loop
 unfolding maskOf anyOf
@@ -53,11 +53,11 @@ pile-start-requires c κs = search needs
 cast-start : tie.Need-cast-start Inv-loop μ-loop
 cast-start c = search needs
 
-element-copy-out-wide : tie.Need-element-copy-out-wide Inv-loop μ-loop
-element-copy-out-wide c = search needs
+element-copy-out-n : tie.Need-element-copy-out-n Inv-loop μ-loop
+element-copy-out-n c = search needs
 
-wide-requires : tie.Need-wide-requires Inv-loop μ-loop
-wide-requires c κs = search needs
+cast-n : tie.Need-cast-n Inv-loop μ-loop
+cast-n c = omega (arith, fits c, c .before .before .loop-test .taken)
 
 add-under : tie.Need-add-under Inv-loop μ-loop
 add-under c = omega (arith, bound c)
@@ -66,7 +66,7 @@ cast-under : tie.Need-cast-under Inv-loop μ-loop
 cast-under c = search needs
 
 sub-under : tie.Need-sub-under Inv-loop μ-loop
-sub-under c = omega (arith, bound c, some-le 0 (c .wide .result))
+sub-under c = omega (arith, bound c, some-le 0 (count-of c))
 
 mul-under : tie.Need-mul-under Inv-loop μ-loop
 mul-under c = omega (arith, bound c)
@@ -97,24 +97,22 @@ loop-less c = search needs
 
 loop-again : tie.Need-loop-again Inv-loop μ-loop
 loop-again c =
-    let b = c .before .before .before .before in
+    let b = c .before .before .before in
     let a = b .before .before .before .args in
     let d = a .deal .now in
-    let n = c .wide .result in
-    let s = c .before .before .pile-start .result in
-    let x = count-of c in
-    let e : n ≡ x = c .wide .ensures in
+    let n = count-of c in
+    let s = c .before .pile-start .result in
     let r = b .before .running .result in
     let run = b .loop .inv .1 in
     let m : ℕ → ℕ = λ j. getD (a .counts .now) j 0 - 1 in
     let f : ℕ → ℕ → Bool = λ k j. ltb 0 (getD (a .counts .now) j 0) && eqb (placed d j (getD (a .counts .now) j 0 - 1)) k in (
       omega arith,
       run,
-      λ t. rw (b .loop .inv .2 t) (fronts-step d m (b .loop .i) s (n - 1) (bitXor (getD r (s + n - boolByte (ltb 0 n)) 0) (getD r s 0)) (cards-low d (and-left (areCards d) (areDifferent d) t)) (c .before .before .before .loop-test .taken) (omega (arith, fits c)) (c .before .before .pile-start .ensures) (ap (λ (y : ℕ). y - 1) e)
+      λ t. rw (b .loop .inv .2 t) (fronts-step d m (b .loop .i) s (n - 1) (bitXor (getD r (s + n - boolByte (ltb 0 n)) 0) (getD r s 0)) (cards-low d (and-left (areCards d) (areDifferent d) t)) (c .before .before .loop-test .taken) (omega (arith, fits c)) (c .before .pile-start .ensures) refl
           (buried-turn d (cards-low d (and-left (areCards d) (areDifferent d) t)) (different-inj d (and-right (areCards d) (areDifferent d) t)) r run s n (bound c))),
       λ t. ap₂ bitOr (b .loop .inv .3 t)
           (heads-turn d (cards-low d (and-left (areCards d) (areDifferent d) t)) (different-inj d (and-right (areCards d) (areDifferent d) t)) r run s n (bound c)
-          ∙ ap₂ (λ (u v : ℕ). maskOf 52 (λ k. ltb 0 v && eqb (getD d (u + (v - 1)) 0) k)) (c .before .before .pile-start .ensures) e)
+          ∙ ap (λ (u : ℕ). maskOf 52 (λ k. ltb 0 n && eqb (getD d (u + (n - 1)) 0) k)) (c .before .pile-start .ensures))
           ∙ or-masks 52 (λ k. anyOf (b .loop .i) (f k)) (λ k. f k (b .loop .i)) ∙ mask-ext 52 (λ k. anyOf (b .loop .i) (f k) || f k (b .loop .i)) (λ k. anyOf (b .loop .i + 1) (f k)) (λ k q. sym (any-more (b .loop .i) (f k))),
     )
 
@@ -138,8 +136,8 @@ piles-spec =
     loop-holds
     pile-start-requires
     cast-start
-    element-copy-out-wide
-    wide-requires
+    element-copy-out-n
+    cast-n
     add-under
     cast-under
     sub-under
