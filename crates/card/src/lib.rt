@@ -13,6 +13,9 @@ pub const N_RANKS: u8 = 13;
 
 pub const N_CARDS: u8 = N_SUITS * N_RANKS;
 
+// The highest card.
+pub const LAST_CARD: u8 = N_CARDS - 1;
+
 pub const KING_RANK: u8 = N_RANKS - 1;
 
 // The cards of each suit.

@@ -20,13 +20,11 @@ pub use engine_table::heights;
 pub use engine_table::is_sure_win;
 pub use engine_table::is_win;
 pub use engine_table::piles;
+use rules::ACCEPTED;
 use rules::Compared;
 use rules::Position;
 use rules::Saved;
 use rules::Started;
-
-// No refusal.
-const ACCEPTED: u8 = rules::ACCEPTED;
 
 // A fresh deal of 52 cards. Refused, the blank position.
 pub fn deal(step: u8, cards: &[u8]) -> Started

@@ -1,16 +1,11 @@
 // The public calls that tell of the deck: its cards, where one lies, the offset after deals. Crate `engine` passes these names on.
 ghost use mathlib.Core.Path.{_≡_};
 ghost use Rattle.rules.specs.Answers.{deckAnswer, findAnswer, offsetAnswer};
+use rules::ACCEPTED;
 use rules::DeckView;
 use rules::Located;
 use rules::Offset;
 use rules::Position;
-
-// No refusal.
-const ACCEPTED: u8 = rules::ACCEPTED;
-
-// The highest card.
-const LAST_CARD: u8 = card::N_CARDS - 1;
 
 // The deck cards left, and the offset.
 pub fn deck(p: Position) -> DeckView
@@ -47,7 +42,7 @@ pub fn find(p: Position, card: u8) -> Located
             place: 0,
         };
     }
-    if card > LAST_CARD {
+    if card > card::LAST_CARD {
         return Located {
             refusal: rules::NO_MOVE,
             position: p,

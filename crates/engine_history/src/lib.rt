@@ -2,18 +2,11 @@
 ghost use mathlib.Core.Path.{_≡_};
 ghost use Rattle.rules.specs.declared.TurnedUp.the-variants.{Nothing};
 ghost use Rattle.rules.specs.Answers.{moveAnswer, moveHistory, undoAnswer};
+use rules::ACCEPTED;
 use rules::Moved;
 use rules::Position;
 use rules::TurnedUp;
 use rules::Undone;
-
-// No refusal.
-const ACCEPTED: u8 = rules::ACCEPTED;
-
-// The highest kind and the highest card.
-const LAST_KIND: u8 = moves::REVEAL;
-
-const LAST_CARD: u8 = card::N_CARDS - 1;
 
 // A refused move: the given position and count.
 fn no_move(refusal: u8, p: Position, count: usize) -> Moved
@@ -38,10 +31,10 @@ pub fn do_move(p: Position, history: &mut [u16], count: usize, kind: u8, card: u
     if history.len() < count {
         return no_move(rules::WRONG_COUNT, p, count);
     }
-    if kind > LAST_KIND {
+    if kind > moves::LAST_KIND {
         return no_move(rules::NO_MOVE, p, count);
     }
-    if card > LAST_CARD {
+    if card > card::LAST_CARD {
         return no_move(rules::NO_MOVE, p, count);
     }
     if !state::is_valid_move(p, kind, card) {

@@ -3,19 +3,12 @@ ghost use mathlib.Core.Path.{_≡_};
 ghost use lib.ListN.{length};
 ghost use denote.Ref.{ptr};
 ghost use Rattle.rules.specs.Answers.{noMasks, masksAnswer, testAnswer, listingAnswer, listingFront, listingInto};
+use rules::ACCEPTED;
 use rules::Listed;
 use rules::Masked;
 use rules::Masks;
 use rules::Position;
 use rules::Told;
-
-// No refusal.
-const ACCEPTED: u8 = rules::ACCEPTED;
-
-// The highest kind and the highest card.
-const LAST_KIND: u8 = moves::REVEAL;
-
-const LAST_CARD: u8 = card::N_CARDS - 1;
 
 // No masks, for a refused call.
 fn no_masks() -> Masks
@@ -61,14 +54,14 @@ pub fn test(p: Position, kind: u8, card: u8) -> Told
             yes: false,
         };
     }
-    if kind > LAST_KIND {
+    if kind > moves::LAST_KIND {
         return Told {
             refusal: rules::NO_MOVE,
             position: p,
             yes: false,
         };
     }
-    if card > LAST_CARD {
+    if card > card::LAST_CARD {
         return Told {
             refusal: rules::NO_MOVE,
             position: p,

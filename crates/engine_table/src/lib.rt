@@ -2,6 +2,7 @@
 ghost use mathlib.Core.Path.{_≡_};
 ghost use lib.ListN.{length};
 ghost use Rattle.rules.specs.Answers.{winAnswer, sureWinAnswer, heightsAnswer, pilesAnswer, pilesBuffer};
+use rules::ACCEPTED;
 use rules::Heights;
 use rules::Piled;
 use rules::Position;
@@ -9,9 +10,6 @@ use rules::Told;
 
 // The bytes that the face-up piles need.
 pub const PILE_BYTES: usize = card::N_PILES as usize * card::N_RANKS as usize;
-
-// No refusal.
-const ACCEPTED: u8 = rules::ACCEPTED;
 
 // Whether every foundation is full.
 pub fn is_win(p: Position) -> Told

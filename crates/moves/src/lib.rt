@@ -5,6 +5,7 @@ ghost use denote.Ref.{ptr};
 ghost use Rattle.rules.specs.Moves.{CardMasks, fitting, listedOver};
 pub use moves_masks::DECK_PILE;
 pub use moves_masks::DECK_STACK;
+pub use moves_masks::LAST_KIND;
 pub use moves_masks::PILE_STACK;
 pub use moves_masks::REVEAL;
 pub use moves_masks::STACK_PILE;

@@ -15,6 +15,9 @@ pub const STACK_PILE: u8 = 3;
 
 pub const REVEAL: u8 = 4;
 
+// The highest kind.
+pub const LAST_KIND: u8 = REVEAL;
+
 // How many moves there are.
 pub fn len(m: Masks) -> u32
     ensures { λ r. ⌜ r ≡ moveCount m ⌝ }

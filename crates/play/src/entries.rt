@@ -142,7 +142,7 @@ pub fn undo(p: Position, entry: u16) -> Back
     let byte = (entry / BYTE) as u8;
     let kind = (entry / KIND % KINDS) as u8;
     let card = (entry % KIND) as u8;
-    if kind > moves::REVEAL {
+    if kind > moves::LAST_KIND {
         return none;
     }
     if card >= card::N_CARDS {
