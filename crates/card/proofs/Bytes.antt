@@ -1,8 +1,7 @@
 -- The bit tricks of a card's number: on each byte, by tests that antt computes, and on any two numbers.
 -- Assumes nothing.
-use mathlib.Core.Bool.{Bool, true, false}
-use mathlib.Core.Path.{_≡_, refl, sym, ap, _∙_}
-use Prim.Native.Nat.{ℕ, _+_, _*_, _/_, _%_, _<_}
+use mathlib.Core.Path.{_≡_, ap}
+use Prim.Native.Nat.{ℕ, _+_, _/_, _%_, _<_}
 use native.Mathlib.Omega.{arith}
 use lib.Bits.{bitAnd, bitXor, and-le-l, and-le-r, xor-add-and, xor-self, xor-shr}
 use lib.Dec.{eqb, ltb}

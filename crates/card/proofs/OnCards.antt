@@ -1,9 +1,9 @@
 -- Computed tests that the card rule of specs/Cards.antt says what document 01 says of cards, and that on the cards 0 to 51 each method answers by it.
 -- Assumes nothing.
-use mathlib.Core.Bool.{Bool, true, false, not, _&&_, Bool·beq}
+use mathlib.Core.Bool.{true, not, _&&_, Bool·beq}
 use mathlib.Core.Path.{_≡_, refl}
-use Prim.Native.Nat.{ℕ, _+_, _*_, _/_, _%_}
-use lib.Dec.{eqb, ltb}
+use Prim.Native.Nat.{_+_}
+use lib.Dec.{eqb}
 use Rattle.bits.specs.Bit.{allOf}
 use Rattle.card.specs.declared.Maybe.the-variants.{Nothing}
 use Rattle.card.specs.Cards.{flipped, cardOf, rank, suit, colour, pair, partner, higher, liesOn, isKing}

@@ -1,13 +1,13 @@
 -- A card's suit is one of four and its colour one of two; no card has another.
 -- Assumes nothing.
 use mathlib.Core.Bool.{Bool, true, false, cond}
-use mathlib.Core.Path.{_≡_, refl, sym, ap, _∙_}
-use Prim.Native.Nat.{ℕ, _+_, _/_, _%_, _^_, _≤_, _<_}
+use mathlib.Core.Path.{_≡_, sym, _∙_}
+use Prim.Native.Nat.{ℕ, _%_, _≤_, _<_}
 use lib.Pow.{pow-pos}
 use native.Mathlib.Omega.{arith}
 use lib.Dec.{eqb}
 use borrow.Author.Tests.{ne-eqb}
-use Rattle.bits.specs.Bit.{bit, maskOf}
+use Rattle.bits.specs.Bit.{maskOf}
 use Rattle.bits.proofs.Laws.{mask-is, bit-none}
 use Rattle.card.specs.Cards.{flipped, rank, suit, colour}
 

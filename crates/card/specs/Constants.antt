@@ -1,6 +1,6 @@
 -- The source's single constants, by the card-number rule.
 -- Assumes nothing.
-use Prim.Native.Nat.{ℕ, _*_}
+use Prim.Native.Nat.{_*_}
 use lib.Dec.{eqb}
 use Rattle.bits.specs.Bit.{maskOf}
 use Rattle.card.specs.declared.Tied.{Tied}

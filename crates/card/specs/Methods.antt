@@ -1,10 +1,9 @@
 -- What the methods of a card answer, on every byte. Document 01's words are in Cards; these are the source's.
 -- Assumes nothing.
-use mathlib.Core.Bool.{Bool, true, false, cond}
+use mathlib.Core.Bool.{Bool, cond}
 use Prim.Native.Nat.{ℕ, _+_, _-_, _/_, _%_, min}
 use lib.Dec.{leb, ltb}
 use Rattle.bits.specs.Bit.{bit, firstOf}
-use Rattle.card.specs.declared.Card.{Card}
 use Rattle.card.specs.declared.Split.{Split}
 use Rattle.card.specs.declared.Maybe.{Maybe}
 use Rattle.card.specs.declared.Maybe.the-variants.{Nothing, Card as Just}

@@ -2,14 +2,14 @@
 -- Assumes nothing.
 use mathlib.Core.Bool.{Bool, true, false, cond}
 use mathlib.Core.Path.{_≡_, refl, sym, ap, _∙_, subst}
-use mathlib.Core.List.{List, []}
+use mathlib.Core.List.{[]}
 use Prim.Native.Nat.{ℕ, _≤_}
 use lib.Dec.{T, ltb}
 use borrow.Author.Tests.{le-ltb}
 use lib.ListN.{length}
 use Rattle.rules.specs.declared.Position.{Position}
 use Rattle.rules.specs.declared.Masks.{Masks}
-use Rattle.rules.specs.Proper.{proper, Shaped}
+use Rattle.rules.specs.Proper.{proper}
 use Rattle.rules.specs.Legal.{listing}
 use Rattle.rules.specs.Moves.{CardMasks, moveCount, fitting}
 use Rattle.rules.specs.Answers.{masksFor}

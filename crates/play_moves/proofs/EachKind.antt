@@ -1,17 +1,12 @@
 -- What each kind of move makes and unmakes, in the order in which the code goes.
 -- Assumes nothing.
-use mathlib.Core.Bool.{Bool, true, false, cond, _||_}
-use mathlib.Core.Path.{_≡_, refl, sym, ap, _∙_}
-use Prim.Native.Nat.{ℕ, zero, suc, _-_}
-use lib.Dec.{T, eqb, ltb}
-use Rattle.bits.proofs.Tables.{T-true}
+use mathlib.Core.Bool.{true, false}
+use mathlib.Core.Path.{_≡_, refl}
+use Prim.Native.Nat.{ℕ, _-_}
 use Rattle.rules.specs.declared.Position.{Position}
 use Rattle.rules.specs.declared.TurnedUp.the-variants.{Nothing}
-use Rattle.rules.specs.Bits.{num}
 use Rattle.rules.specs.Places.{count, pileCard, cardAt, deckCard, isHead, pileOf}
-use Rattle.rules.specs.Foundations.{raisedOn}
-use Rattle.rules.specs.Play.{raised, lowered, shown, hidden, drawn, putBack, turned, turnedBack, under, withVisible, withHeights, withCounts, withDeck, deckPlace, after, undoByte, turnedUp, before}
-use Rattle.play_moves.specs.declared.Made.{Made}
+use Rattle.rules.specs.Play.{raised, lowered, shown, hidden, drawn, turned, under, withVisible, withHeights, withDeck, deckPlace, after, undoByte, turnedUp}
 use Rattle.play_moves.specs.Made.{made, turnedAt}
 
 module _ (p : Position) (c : ℕ) where

@@ -1,9 +1,7 @@
 // The single changes that moves are made of: a number one lower, a card seen or not, and the search for a head's pile.
 ghost use mathlib.Core.Path.{_≡_};
 ghost use Prim.Native.Nat.{_-_};
-ghost use lib.Dec.{T};
 ghost use Rattle.rules.specs.Bits.{with, without};
-ghost use Rattle.rules.specs.Proper.{proper};
 ghost use Rattle.rules.specs.Hidden.{CountsFit, headPile, barePile};
 use card::Card;
 use rules::Position;

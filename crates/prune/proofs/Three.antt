@@ -1,6 +1,6 @@
 -- Three cards at least: one is left when the lowest two are gone.
 -- Assumes nothing.
-use mathlib.Core.Bool.{Bool, true, false, not, _&&_}
+use mathlib.Core.Bool.{Bool, not, _&&_}
 use mathlib.Core.Path.{_≡_, sym, ap, _∙_}
 use mathlib.Core.Logic.{⊎-elim}
 use Prim.Native.Nat.{ℕ, _-_, _≤_, _<_, _^_}
@@ -9,7 +9,7 @@ use native.Mathlib.Omega.{arith}
 use lib.Bits.{bitAnd, and-le-l}
 use lib.Dec.{eqb, ltb, leb, lit<}
 use borrow.Author.Tests.{lt-ltb, le-ltb, le-leb, lt-leb}
-use Rattle.bits.specs.Bit.{bit, maskOf, countOf, firstOf}
+use Rattle.bits.specs.Bit.{bit, maskOf, firstOf}
 use Rattle.bits.proofs.Laws.{mask-is, mask-lt, bit-none}
 use Rattle.bits.proofs.Counts.{count-step, count-zero, clear-bit, tz-first}
 use Rattle.rules.specs.Pruned.{size}

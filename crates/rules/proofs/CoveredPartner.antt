@@ -3,9 +3,6 @@
 -- Assumes nothing.
 use mathlib.Core.Bool.{false}
 use mathlib.Core.Path.{_≡_, refl}
-use Rattle.rules.specs.declared.Started.{Started}
-use Rattle.rules.specs.declared.Masked.{Masked}
-use Rattle.rules.specs.declared.Masks.{Masks}
 use Rattle.rules.specs.Answers.{masksAnswer}
 use Rattle.rules.specs.Worked.{resume}
 use Rattle.rules.proofs.Open.{rules}

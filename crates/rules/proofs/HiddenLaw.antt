@@ -17,7 +17,7 @@ use Rattle.rules.specs.Places.{cardAt, pileCard, count, hasHead, head, i
 use Rattle.rules.specs.Code.{countsField, pileField, fieldCount, codeCount, codePiles, table}
 use Rattle.rules.specs.Play.{withCounts, shown, hidden, turned, turnedBack, under}
 use Rattle.rules.specs.Hidden.{placed, headOf, bareOf, headIn, buriedIn, lockedIn, baseIn, headPile, barePile, oneLess, oneMore, underIn, coveredIn, allUp}
-use Rattle.rules.proofs.Searches.{and-left, and-right, and-both, any-yes, yes-any, any-ext, first-yes}
+use Rattle.rules.proofs.Searches.{and-left, and-right, and-both, any-yes, yes-any, first-yes}
 use Rattle.rules.proofs.Steps.{first-at, first-none}
 use Rattle.rules.proofs.Placed.{pile-of}
 use Rattle.bits.proofs.Tables.{same-test}

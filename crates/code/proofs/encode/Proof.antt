@@ -11,8 +11,6 @@ use Rattle.rules.proofs.ProperMade.{Numbers, numbers, step-low}
 use Rattle.code.proofs.Parts.{code-is, gone-is}
 use Rattle.code.proofs.encode.Statement.{statement}
 use Rattle.code.proofs.encode.Tie as tie
-use Rattle.hidden.proofs.encode.Reads as encode-reads′
-use Rattle.stack.proofs.encode.Reads as encode-reads′′
 
 ranges : (p : Position) → T (proper p) → Numbers p
 ranges p t = numbers p (parts p (T-true (proper p) t) .numbers)

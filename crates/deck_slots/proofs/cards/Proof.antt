@@ -2,9 +2,9 @@
 -- Assumes nothing.
 use mathlib.Core.List.{List, []}
 use mathlib.Core.Path.{_≡_, refl, sym, ap, _∙_}
-use Prim.Native.Nat.{ℕ, _+_, _-_, _≤_}
+use Prim.Native.Nat.{ℕ, _-_}
 use native.Mathlib.Omega.{arith}
-use lib.ListN.{length, take, drop}
+use lib.ListN.{drop}
 use lib.Seq.{paste}
 use Rattle.rules.specs.Play.{slots}
 use Rattle.deck_slots.proofs.Slots.{padded, copied}

@@ -1,10 +1,10 @@
 -- `deck_slots::draw` meets its contract.
 -- Assumes nothing.
-use mathlib.Core.List.{List, [], _++_}
-use mathlib.Core.Path.{_≡_, refl, sym, ap, _∙_}
-use Prim.Native.Nat.{ℕ, _+_, _-_, _≤_}
+use mathlib.Core.List.{List, _++_}
+use mathlib.Core.Path.{ap, _∙_}
+use Prim.Native.Nat.{ℕ, _+_, _-_}
 use native.Mathlib.Omega.{arith}
-use lib.ListN.{length, take, drop}
+use lib.ListN.{take, drop}
 use lib.Seq.{paste, length-take-le}
 use Rattle.rules.specs.Play.{slots}
 use Rattle.deck_slots.proofs.Slots.{copied, behind}

@@ -2,9 +2,8 @@
 -- Assumes nothing.
 use borrow.Author.Needs.{needs}
 use borrow.Author.Tests.{not-true, not-false, eq-eqb, ne-eqb}
-use mathlib.Core.Bool.{Bool, true, false, not}
+use mathlib.Core.Bool.{true, false}
 use mathlib.Core.Path.{_≡_, sym, _∙_}
-use Rattle.rules.specs.declared.Position.{Position}
 use Rattle.rules.specs.Bits.{sameList}
 use Rattle.rules.specs.Proper.{proper}
 use Rattle.rules.specs.Code.{ladderSame}

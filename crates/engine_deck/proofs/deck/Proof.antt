@@ -1,7 +1,6 @@
 -- `engine_deck::deck` meets its contract.
 -- Assumes nothing.
 use borrow.Author.Needs.{needs}
-use native.Mathlib.Omega.{arith}
 use Rattle.rules.specs.Answers.{deckAnswer, improper}
 use Rattle.rules.proofs.Facts.{facts}
 use Rattle.proper.proofs.Judged.{is-wrong, is-right, is-proper}

@@ -10,7 +10,6 @@ use lib.ListN.{set}
 use Rattle.bits.proofs.Tables.{true-T}
 use Rattle.rules.specs.declared.Moved.{Moved}
 use Rattle.rules.specs.Proper.{proper}
-use Rattle.rules.specs.Legal.{legal}
 use Rattle.rules.specs.History.{entry, isKindAndCard}
 use Rattle.rules.specs.Answers.{moveAnswer, moveRefusal, moveHistory}
 use Rattle.laws.proofs.EntryFits.{byte-fits}

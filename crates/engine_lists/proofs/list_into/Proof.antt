@@ -7,7 +7,7 @@ use mathlib.Core.List.{List, _++_}
 use Prim.Native.Nat.{ℕ}
 use denote.Ref.{now}
 use lib.ListN.{length, drop}
-use Rattle.rules.specs.Moves.{fitting, listedOver}
+use Rattle.rules.specs.Moves.{listedOver}
 use Rattle.rules.specs.Answers.{listingAnswer, listingRefusal, listingInto, listingFront}
 use Rattle.rules.proofs.Shape.{shape}
 use Rattle.proper.proofs.Judged.{is-wrong, is-right, is-proper}

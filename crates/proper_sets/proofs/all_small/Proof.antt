@@ -1,8 +1,8 @@
 -- `proper_sets::all_small` meets its contract.
 -- Assumes nothing.
 use borrow.Author.Needs.{needs}
-use mathlib.Core.Path.{_≡_, refl, sym, ap, ap₂, _∙_}
-use Prim.Native.Nat.{ℕ, zero, suc, _+_, _-_, _*_, _/_, _%_, _^_, _≤_, _<_}
+use mathlib.Core.Path.{_≡_, refl, sym, ap, _∙_}
+use Prim.Native.Nat.{_-_, _≤_}
 use native.Mathlib.Omega.{arith}
 use mathlib.Core.Bool.{_&&_}
 use lib.Dec.{ltb}
@@ -13,8 +13,6 @@ use Rattle.rules.proofs.Searches.{all-snoc}
 use Rattle.proper_sets.proofs.Laws.{or-ltb}
 use Rattle.proper_sets.proofs.all_small.Statement.{statement}
 use Rattle.proper_sets.proofs.all_small.Tie as tie
-use Rattle.proper_sets.proofs.all_small.Reads as reads
-use Rattle.proper_sets.proofs.all_small.Lts as lts
 
 abbrev Inv-loop : tie.InvT-loop
 Inv-loop cards any₀ k₀ any k = (k ≤ 52) × (ltb any 64 ≡ allOf k (λ j. ltb (getD cards j 0) 64))

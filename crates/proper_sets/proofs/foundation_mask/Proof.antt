@@ -1,17 +1,14 @@
 -- `proper_sets::foundation_mask` meets its contract.
 -- Assumes nothing.
 use borrow.Author.Needs.{needs}
-use mathlib.Core.Path.{_≡_, refl, sym, ap, ap₂, _∙_}
-use Prim.Native.Nat.{ℕ, zero, suc, _+_, _-_, _*_, _/_, _%_, _^_, _≤_, _<_}
+use mathlib.Core.Path.{_≡_, refl, ap, _∙_}
+use Prim.Native.Nat.{_-_, _*_, _≤_}
 use native.Mathlib.Omega.{arith}
 use lib.Pow.{pow-pos}
 use lib.ListN.{getD}
 use Rattle.proper_sets.proofs.Sets.{stackedTo, stacked-none, stacked-step, stacked-are, shifted-exact}
 use Rattle.proper_sets.proofs.foundation_mask.Statement.{statement}
 use Rattle.proper_sets.proofs.foundation_mask.Tie as tie
-use Rattle.proper_sets.proofs.foundation_mask.Reads as reads
-use Rattle.proper_sets.proofs.foundation_mask.Lts as lts
-use Rattle.card.proofs.suit_mask.Reads as suit-mask-reads
 
 abbrev Inv-loop : tie.InvT-loop
 Inv-loop heights mask₀ s₀ mask s = (s ≤ 4) × (mask ≡ stackedTo heights s)

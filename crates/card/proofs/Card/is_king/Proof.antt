@@ -2,7 +2,6 @@
 -- Assumes nothing.
 use borrow.Author.Needs.{needs}
 use mathlib.Core.Path.{ap}
-use Prim.Native.Nat.{ℕ}
 use lib.Dec.{leb}
 use Rattle.card.specs.Methods.{kingOrFake}
 use Rattle.card.proofs.Card.is_king.Statement.{statement}

@@ -2,7 +2,7 @@
 -- Assumes nothing.
 use borrow.Author.Needs.{needs}
 use mathlib.Core.Path.{_≡_, ap₂, _∙_}
-use Prim.Native.Nat.{ℕ, _+_, _*_, _/_, _%_}
+use Prim.Native.Nat.{_+_, _*_, _%_}
 use native.Mathlib.Omega.{arith}
 use Rattle.card.specs.Cards.{cardOf}
 use Rattle.card.specs.Methods.{numberOf}

@@ -3,7 +3,6 @@
 use borrow.Author.Needs.{needs}
 use mathlib.Core.Path.{ap₂}
 use Prim.Native.Nat.{ℕ}
-use Rattle.card.specs.declared.Split.{Split}
 use Rattle.card.specs.Methods.{splitOf}
 use Rattle.card.proofs.Card.split.Statement.{statement}
 use Rattle.card.proofs.Card.split.Tie as tie

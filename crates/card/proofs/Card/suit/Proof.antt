@@ -1,10 +1,8 @@
 -- `card::Card::suit` meets its contract.
 -- Assumes nothing.
 use borrow.Author.Needs.{needs}
-use mathlib.Core.Path.{ap, _∙_}
-use Prim.Native.Nat.{ℕ, _+_, _*_, _/_, _%_, _<_}
 use native.Mathlib.Omega.{arith}
-use Rattle.card.specs.Cards.{flipped, cardOf, rank, suit}
+use Rattle.card.specs.Cards.{cardOf, rank, suit}
 use Rattle.card.proofs.Suits.{suit-low}
 use Rattle.card.proofs.Card.suit.Statement.{statement}
 use Rattle.card.proofs.Card.suit.Tie as tie

@@ -1,8 +1,7 @@
 -- `play::entries::leads_to` meets its contract.
 -- Assumes nothing.
 use borrow.Author.Needs.{needs}
-use mathlib.Core.Path.{_≡_, refl, sym, ap, _∙_, subst}
-use mathlib.Core.Bool.{true}
+use mathlib.Core.Path.{sym, ap, _∙_}
 use lib.Dec.{eqb}
 use borrow.Author.Tests.{eq-eqb, ne-eqb}
 use Rattle.bits.proofs.Tables.{true-T}

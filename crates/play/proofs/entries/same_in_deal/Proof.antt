@@ -1,12 +1,8 @@
 -- `play::entries::same_in_deal` meets its contract.
 -- Assumes nothing.
 use borrow.Author.Needs.{needs}
-use mathlib.Core.Path.{_≡_, refl, sym, ap, _∙_, subst}
-use mathlib.Core.Bool.{true}
-use lib.Dec.{eqb}
 use borrow.Author.Tests.{eq-eqb, ne-eqb}
-use Rattle.rules.specs.Bits.{sameList}
-use Rattle.play.specs.Undone.{sameDeck, sameInDeal}
+use Rattle.play.specs.Undone.{sameInDeal}
 use Rattle.play.proofs.Answered.{denied, granted}
 use Rattle.play.proofs.entries.same_in_deal.Statement.{statement}
 use Rattle.play.proofs.entries.same_in_deal.Tie as tie
