@@ -11,13 +11,11 @@ use lib.Bits.{bitAnd, bitOr, or-shifted}
 use lib.ListN.{length, getD, length-map}
 use lib.Pow.{pow-mono}
 use Rattle.bits.specs.Bit.{bit}
-use Rattle.bits.proofs.Laws.{num-le, mask-lt, mask-ext, has-shr, bit-shr}
-use Rattle.bits.proofs.Counts.{list-length, list-ext, count-ext}
+use Rattle.bits.proofs.Laws.{num-le, mask-lt, mask-ext, has-shr}
+use Rattle.bits.proofs.Counts.{list-length}
 use Rattle.rules.specs.declared.Position.{Position}
 use Rattle.rules.specs.Bits.{num, maskOf, countOf, listOf, consIf}
 use Rattle.rules.specs.Places.{stockCard, isBuried, isVisible, inDeck, onFoundation}
-use Rattle.rules.specs.Code.{deckOf, codeHas, codeLeft}
-use Rattle.rules.specs.Play.{slots}
 use Rattle.rules.proofs.Searches.{count-snoc}
 use Rattle.rules.proofs.Facts.{Facts, sets}
 use Rattle.rules.proofs.Placed.{stock-buried}
@@ -118,16 +116,3 @@ is-clear m k h = go (bit m k) (has-shr m k)
     go : (b : Bool) → bitAnd (m / 2 ^ k) 1 ≡ num b → b ≡ false
     go true e = absurd (let z : _≡_ {A = ℕ} 0 1 = sym h ∙ e in omega arith)
     go false e = refl
-
--- ---- the field of a code
-
-has-field : (x k : ℕ) → bit (x / 2 ^ 32) k ≡ codeHas x k
-unfolding codeHas
-has-field x k = let e : k + 32 ≡ 32 + k = omega arith in bit-shr 32 x k ∙ ap (bit x) e
-
-pub code-deck : (d : List ℕ) (x : ℕ) → deckOf d (bit (x / 2 ^ 32)) ≡ deckOf d (codeHas x)
-code-deck d x = ap (λ (l : List ℕ). slots (map (λ k. getD d k 0) l)) (list-ext 24 28 (bit (x / 2 ^ 32)) (codeHas x) (λ k l. has-field x k))
-
-pub code-left : (x : ℕ) → countOf 24 (bit (x / 2 ^ 32)) ≡ codeLeft x
-unfolding codeLeft
-code-left x = count-ext 24 (bit (x / 2 ^ 32)) (codeHas x) (λ k l. has-field x k)
