@@ -22,7 +22,7 @@ use Rattle.laws.proofs.Few.{lists-few as few}
 use Rattle.laws.proofs.ShownOnce.{shows-once as shown}
 use Rattle.laws.proofs.PileBytes.{bytes-show-once as bytes}
 use Rattle.laws.proofs.Arranged.{piles-arranged as arranged}
-use Rattle.laws.proofs.NotVacuous.{W′, W″, Meets, Differs, calls, later, code, reveal, meets-fresh, meets-resumed, shows}
+use Rattle.laws_examples.proofs.NotVacuous.{W′, W″, Meets, Differs, calls, later, code, reveal, meets-fresh, meets-resumed, shows}
 use Rattle.laws.proofs.Secrets.{keeps-secrets as secrets}
 use Rattle.laws.proofs.OneOutcome.{one-outcome as outcome}
 
