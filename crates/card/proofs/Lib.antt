@@ -1,3 +1,4 @@
 pub mod Suits
 pub mod Bytes
 pub mod OnCards
+pub mod Gathering

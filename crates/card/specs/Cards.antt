@@ -1,8 +1,10 @@
 -- Document 01, "Cards and masks".
 use mathlib.Core.Bool.{Bool, cond}
+use mathlib.Core.List.{List}
 use Prim.Native.Nat.{ℕ, _+_, _-_, _*_, _/_, _%_}
 use lib.Dec.{eqb}
-use Rattle.bits.specs.Bit.{maskOf}
+use lib.ListN.{getD}
+use Rattle.bits.specs.Bit.{maskOf, anyOf}
 
 -- "with 2 of the suit flipped on odd ranks"
 unfoldable pub flipped : ℕ → ℕ → ℕ
@@ -52,3 +54,7 @@ colourMask k = maskOf 64 (λ c. eqb (colour (suit c)) k)
 -- "seven pile starts": "Pile i (0 to 6) takes i+1 cards from its start", so 0, 1, 3, 6, 10, 15, 21
 unfoldable pub pileStart : ℕ → ℕ
 pileStart i = i * (i + 1) / 2
+
+-- the cards at the k places of d from s on, each byte taken modulo 64
+unfoldable pub cardsFrom : List ℕ → ℕ → ℕ → ℕ
+cardsFrom d s k = maskOf 64 (λ c. anyOf k (λ j. eqb (getD d (s + j) 0 % 64) c))

@@ -1,25 +1,42 @@
 // Cards, and the constant tables that follow from the card-number rule.
 ghost use mathlib.Core.Path.{_≡_};
-ghost use Prim.Native.Nat.{_<_, _/_, _%_};
+ghost use Prim.Native.Nat.{_+_, _≤_, _<_, _/_, _%_};
 ghost use lib.Dec.{eqb};
+ghost use lib.ListN.{length};
 ghost use Rattle.bits.specs.Bit.{maskOf};
-ghost use Rattle.card.specs.Cards.{cardOf, rank as rankOf, suit as suitOf, partner, suitMask, colourMask, pileStart};
+ghost use Rattle.card.specs.Cards.{cardOf, rank as rankOf, suit as suitOf, partner, suitMask, colourMask, pileStart, cardsFrom};
 ghost use Rattle.card.specs.Methods.{numberOf, twin, above, below, kingOrFake, goesAfter, splitOf, firstCard};
 ghost use Rattle.card.specs.Constants.{constantsAre};
 
-pub const N_SUITS: u8 = 4;
+// How many there are of suits, ranks, cards and piles; of places in the piles and in the deck. Pile k has k + 1 places: the piles' places are the
+// deal's first, the deck's the others.
+pub const N_SUITS: usize = 4;
 
-pub const N_RANKS: u8 = 13;
+pub const N_RANKS: usize = 13;
 
-pub const N_CARDS: u8 = N_SUITS * N_RANKS;
+pub const N_CARDS: usize = N_SUITS * N_RANKS;
 
-// The highest card.
-pub const LAST_CARD: u8 = N_CARDS - 1;
+pub const N_PILES: usize = 7;
 
-pub const KING_RANK: u8 = N_RANKS - 1;
+pub const N_PILE_CARDS: usize = N_PILES * (N_PILES + 1) / 2;
+
+pub const N_DECK_CARDS: usize = N_CARDS - N_PILE_CARDS;
+
+// As bytes: the highest card, the height of a full foundation, the cards of a full deck.
+pub const LAST_CARD: u8 = N_CARDS as u8 - 1;
+
+pub const FULL_HEIGHT: u8 = N_RANKS as u8;
+
+pub const FULL_DECK: u8 = N_DECK_CARDS as u8;
+
+// As many columns as piles.
+pub const N_COLUMNS: u32 = N_PILES as u32;
+
+// Every card.
+pub const FULL_MASK: u64 = 0xF_FFFF_FFFF_FFFF;
 
 // The cards of each suit.
-pub const SUIT_MASK: [u64; N_SUITS as usize] = [
+pub const SUIT_MASK: [u64; N_SUITS] = [
     0x4141_4141_4141_4141,
     0x8282_8282_8282_8282,
     0x1414_1414_1414_1414,
@@ -29,18 +46,11 @@ pub const SUIT_MASK: [u64; N_SUITS as usize] = [
 // The cards of each colour.
 pub const COLOR_MASK: [u64; 2] = [SUIT_MASK[0] | SUIT_MASK[1], SUIT_MASK[2] | SUIT_MASK[3]];
 
-// Pile k has k + 1 places. The piles' places are the deal's first, the deck's the others.
-pub const N_PILES: u8 = 7;
-
-pub const N_PILE_CARDS: u8 = N_PILES * (N_PILES + 1) / 2;
-
-pub const N_DECK_CARDS: u8 = N_CARDS - N_PILE_CARDS;
-
 // Where each pile starts in the deal.
-pub const PILE_START: [u8; N_PILES as usize] = [0, 1, 3, 6, 10, 15, 21];
+pub const PILE_START: [u8; N_PILES] = [0, 1, 3, 6, 10, 15, 21];
 
 // The four kings.
-pub const KING_MASK: u64 = 0xF << (N_SUITS * KING_RANK);
+pub const KING_MASK: u64 = 0xF << (N_SUITS * (N_RANKS - 1));
 
 // Of the two pairs of each rank the first.
 pub const HALF_MASK: u64 = 0x3333_3333_3333_3333;
@@ -50,6 +60,11 @@ pub const ALT_MASK: u64 = 0x5555_5555_5555_5555;
 
 // Of the four cards of each rank the first.
 pub const RANK_MASK: u64 = 0x1111_1111_1111_1111;
+
+// Four cards to a rank, and the highest rank.
+const SUITS: u8 = N_SUITS as u8;
+
+const KING_RANK: u8 = N_RANKS as u8 - 1;
 
 // A card number. The cards are 0 to 51; every method answers on every byte.
 pub struct Card(pub u8);
@@ -85,14 +100,14 @@ impl Card {
     pub fn new(rank: u8, suit: u8) -> Self
         ensures { λ r. ⌜ r .0 ≡ numberOf rank suit ⌝ }
     {
-        let value = std::num::wrapping_add_u8((rank % 64) * N_SUITS, suit);
+        let value = std::num::wrapping_add_u8((rank % 64) * SUITS, suit);
         Card(suit_xor_color(value))
     }
 
     pub fn rank(self) -> u8
         ensures { λ r. ⌜ r ≡ rankOf (self .0) ⌝ }
     {
-        self.0 / N_SUITS
+        self.0 / SUITS
     }
 
     // A king or a fake card: also of each number above the cards.
@@ -105,7 +120,7 @@ impl Card {
     pub fn suit(self) -> u8
         ensures { λ r. ⌜ r ≡ suitOf (self .0) ⌝ }
     {
-        suit_xor_color(self.0) % N_SUITS
+        suit_xor_color(self.0) % SUITS
     }
 
     pub fn split(self) -> Split
@@ -135,8 +150,8 @@ impl Card {
     pub fn increase_rank_swap_color(self) -> Self
         ensures { λ r. ⌜ r .0 ≡ above (self .0) ⌝ }
     {
-        if self.0 < TOP - N_SUITS {
-            return Card(self.0 + N_SUITS);
+        if self.0 < TOP - SUITS {
+            return Card(self.0 + SUITS);
         }
         Card(TOP)
     }
@@ -145,8 +160,8 @@ impl Card {
     pub fn reduce_rank_swap_color(self) -> Self
         ensures { λ r. ⌜ r .0 ≡ below (self .0) ⌝ }
     {
-        if N_SUITS < self.0 {
-            return Card(self.0 - N_SUITS);
+        if SUITS < self.0 {
+            return Card(self.0 - SUITS);
         }
         Card(0)
     }
@@ -156,7 +171,7 @@ impl Card {
         ensures { λ r. ⌜ r ≡ goesAfter (self .0) other ⌝ }
     {
         match other {
-            Maybe::Card(under) => ((self.0 as u16 + N_SUITS as u16) ^ under.0 as u16) < 2,
+            Maybe::Card(under) => ((self.0 as u16 + SUITS as u16) ^ under.0 as u16) < 2,
             Maybe::Nothing => self.is_king(),
         }
     }
@@ -223,7 +238,7 @@ pub fn constants() -> Tied
 pub fn suit_mask(suit: usize) -> u64
     ensures { λ r. ⌜ r ≡ suitMask suit ⌝ }
 {
-    if suit < N_SUITS as usize {
+    if suit < N_SUITS {
         return SUIT_MASK[suit];
     }
     0
@@ -245,4 +260,18 @@ pub fn pile_start(pile: usize) -> u8
     ensures { λ r. ⌜ r ≡ pileStart pile ⌝ }
 {
     PILE_START[pile]
+}
+
+// The cards at the n places from start on, each byte modulo 64.
+pub fn cards_from(cards: &[u8], start: usize, n: usize) -> u64
+    requires { ⌜ start + n ≤ length (now cards) ⌝ }
+    ensures { λ r. ⌜ r ≡ cardsFrom (now (cards .entry)) start n ⌝ }
+{
+    let mut mask: u64 = 0;
+    let mut k: usize = 0;
+    while k < n {
+        mask |= 1u64 << (cards[start + k] & 63);
+        k += 1;
+    }
+    mask
 }

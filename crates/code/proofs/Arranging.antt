@@ -18,14 +18,16 @@ use Rattle.rules.specs.Play.{withVisible}
 use Rattle.rules.specs.Code.{workedOut}
 use Rattle.rules.specs.Refusals.{_refuses_else_, overlapping, unarranged}
 use Rattle.rules.specs.Answers.{overlaps}
-use Rattle.rules.proofs.Searches.{any-ext}
+use Rattle.bits.proofs.Searches.{any-ext}
 use Rattle.rules.proofs.ProperLaw.{locked-is}
-use Rattle.proper.specs.Masks.{pairsFit}
+use Rattle.proper.specs.Tests.{pairsFit}
 use Rattle.proper.proofs.Judge.{pairs-were, seven-was}
-use Rattle.proper_sets.proofs.Laws.{ones-mask}
+use Rattle.bits.proofs.Full.{ones-mask}
 use Rattle.proper.proofs.Tricks.{empty-mask}
 use Rattle.code.specs.declared.Sets.{Sets}
 use Rattle.code.specs.Resuming.{setsOf, worked, arrangeRefusal}
+use Rattle.rules.specs.Foundations.{stackedOn}
+use Rattle.rules.specs.Hidden.{buriedIn, headIn}
 
 pub all-not : (n : ℕ) (f : ℕ → Bool) → allOf n (λ k. not (f k)) ≡ not (anyOf n f)
 unfolding allOf anyOf
@@ -59,7 +61,7 @@ module _ (p : Position) where
       ∙ and-not-masks 52 52 (λ c. true) (λ c. onFoundation p c || inDeck p c || isBuried p c) (lit≤ tt) (lit≤ tt)
 
   meets-of : eqb (meetsOf (setsOf p)) 0 ≡ not (overlaps (worked p))
-  unfolding setsOf overlaps withVisible onFoundation height inDeck deckCard isBuried isHead hasHead head pileCard cardAt count
+  unfolding setsOf overlaps withVisible stackedOn inDeck buriedIn headIn
   meets-of =
       ap (λ (x : ℕ). eqb x 0)
       (ap (bitAnd (maskOf 52 (onFoundation p))) (ap (λ (x : ℕ). bitOr x (maskOf 52 (isHead p))) (or-masks 52 (inDeck p) (isBuried p)) ∙ or-masks 52 (λ c. inDeck p c || isBuried p c) (isHead p))
@@ -72,7 +74,7 @@ module _ (p : Position) where
       meets = table 4 (λ f d h b. f && (d || b || h)) (λ f d h b. f && (d || (h || b))) tt
 
   free-of : bitAnd (workedOut p) ((2 ^ 64 - 1) - maskOf 52 (isHead p)) ≡ maskOf 52 (isFree (worked p))
-  unfolding workedOut isFree isVisible withVisible isBuried isHead hasHead head pileCard cardAt count
+  unfolding workedOut isFree isVisible withVisible buriedIn headIn
   free-of =
       and-not-masks 52 52 others (isHead p) (lit≤ tt) (lit≤ tt)
       ∙ mask-ext 52 _ _ (λ c l. seen (onFoundation p c) (inDeck p c) (isHead p c) (isBuried p c)

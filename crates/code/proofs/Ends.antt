@@ -10,7 +10,7 @@ use Rattle.rules.specs.Bits.{anyOf}
 use Rattle.rules.specs.Code.{codeHeight, codePiles, codeLeft, codeOffset, storedOffset, resumed}
 use Rattle.rules.specs.Refusals.{_refuses_else_, accepted, wrongHeight, wrongPiles, wrongOffset}
 use Rattle.rules.specs.Answers.{dealRefusal, offsetWrong, resumeRefusal}
-use Rattle.rules.proofs.Searches.{or-left, or-right}
+use Rattle.bits.proofs.Searches.{or-left, or-right}
 use Rattle.rules.proofs.Refusing.{deal-first}
 use Rattle.code.specs.Resuming.{arrangeRefusal}
 

@@ -16,15 +16,15 @@ use Rattle.rules.specs.declared.Position.{Position}
 use Rattle.rules.specs.Bits.{anyOf}
 use Rattle.rules.specs.Places.{count, height, inDeck, isVisible, onFoundation, stockCard}
 use Rattle.rules.specs.Proper.{areCards}
-use Rattle.rules.specs.Foundations.{validOn, fieldOn}
+use Rattle.rules.specs.Foundations.{validOn, fieldOn, stackedOn}
 use Rattle.rules.specs.Play.{slots}
 use Rattle.rules.specs.Code.{heightField, countsField, pileField, deckField, storedOffset, code, codeHeight, codeCount, codeHas, codeLeft, codeOffset, table, deckOf, codeParts}
-use Rattle.rules.proofs.Searches.{all-ext, count-ext, list-ext, count-le, getD-table}
+use Rattle.bits.proofs.Searches.{all-ext, count-ext, list-ext, count-le}
+use Rattle.rules.proofs.SameList.{getD-table}
 use Rattle.rules.proofs.ProperMade.{Numbers, any-none}
 use Rattle.rules.proofs.PileField.{table-ext, field-low}
 use Rattle.rules.proofs.Digits.{below4, has-bit, stored-fits, code-fits}
 use Rattle.rules.proofs.DealLaw.{cards-low}
-use Rattle.proper_sets.specs.Masks.{stacked}
 use Rattle.code.specs.Resuming.{Ranged}
 use Rattle.code.proofs.Arranging.{all-not}
 
@@ -42,11 +42,11 @@ joined h n m o lh ln lm lo =
 
 module _ (p : Position) (n : Numbers p) where
   heights-low : fieldOn (p .heights) < 2 ^ 16
-  unfolding fieldOn height
+  unfolding fieldOn
   heights-low = omega (arith, n .heights 0 (omega arith), n .heights 1 (omega arith), n .heights 2 (omega arith), n .heights 3 (omega arith))
 
   piles-low : countsField (p .counts) < 2 ^ 16
-  unfolding countsField count
+  unfolding countsField
   piles-low = omega (arith, field-low (count p) (n .counts))
 
   deck-low : deckField p < 2 ^ 24
@@ -55,16 +55,16 @@ module _ (p : Position) (n : Numbers p) where
 
   pub code-is : (h c d o : ℕ) → h ≡ fieldOn (p .heights) → c ≡ countsField (p .counts) → d ≡ deckField p → o ≡ storedOffset (p .left) (p .step) (p .offset) →
       bitOr (bitOr (bitOr h (c * 2 ^ 16 % 2 ^ 64)) (d * 2 ^ 32 % 2 ^ 64)) (o * 2 ^ 56 % 2 ^ 64) ≡ code p
-  unfolding code heightField pileField countsField count
+  unfolding code fieldOn countsField
   code-is h c d o eh ec ed eo =
       rw (eh, ec, ed, eo)
       (joined (fieldOn (p .heights)) (countsField (p .counts)) (deckField p) (storedOffset (p .left) (p .step) (p .offset)) heights-low piles-low deck-low
       (omega (arith, stored-fits (p .left) (p .step) (p .offset) (n .offset), n .left)))
 
   -- the cards that are neither buried nor in the deck
-  pub gone-is : (m : ℕ) → m ≡ maskOf 52 (stacked (p .heights)) → bitOr (p .visible) m ≡ maskOf 52 (λ c. isVisible p c || onFoundation p c)
-  unfolding isVisible onFoundation height stacked
-  gone-is m e = ap₂ bitOr (mask-self 52 (p .visible) (n .visible)) e ∙ or-masks 52 (bit (p .visible)) (stacked (p .heights))
+  pub gone-is : (m : ℕ) → m ≡ maskOf 52 (stackedOn (p .heights)) → bitOr (p .visible) m ≡ maskOf 52 (λ c. isVisible p c || onFoundation p c)
+  unfolding isVisible stackedOn
+  gone-is m e = ap₂ bitOr (mask-self 52 (p .visible) (n .visible)) e ∙ or-masks 52 (bit (p .visible)) (stackedOn (p .heights))
 
 -- ---- taken apart
 
@@ -140,7 +140,7 @@ low-deal d e h k = go (ltb k 52) refl
     go false t = omega (arith, past-end d k (omega (arith, ltb-false k 52 t)))
 
 counts-fit : (d : List ℕ) (step x i : ℕ) → i < 7 → getD (table 7 (codeCount x)) i 0 ≤ i + 1
-unfolding count codeParts
+unfolding codeParts
 counts-fit d step x i l = code-fits d step x i l
 
 pub ranged : (d : List ℕ) (step x : ℕ) → length d ≡ 52 → areCards d ≡ true → anyOf 4 (λ s. ltb 13 (codeHeight x s)) ≡ false → Ranged (codeParts d step x)

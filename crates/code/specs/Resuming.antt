@@ -14,7 +14,7 @@ use Rattle.rules.specs.Play.{withVisible}
 use Rattle.rules.specs.Code.{codePiles, codeOffset, workedOut}
 use Rattle.rules.specs.Refusals.{_refuses_else_, overlapping, unarranged}
 use Rattle.rules.specs.Answers.{overlaps}
-use Rattle.code_deal.specs.Starts.{startedBy}
+use Rattle.deal.specs.Starts.{startedBy}
 
 -- the four fields of a code: "Bits 0-15", "Bits 16-31", "Bits 32-55", "Bits 56-63"
 unfoldable pub fieldsOf : ℕ → Fields

@@ -1,20 +1,15 @@
-// The save code, and the position that a code stands for. A fresh deal is in crate `code_deal`; its names are passed on.
+// The save code, and the position that a code stands for.
 ghost use mathlib.Core.Path.{_≡_};
 ghost use lib.Dec.{T};
 ghost use Rattle.rules.specs.Proper.{proper};
 ghost use Rattle.rules.specs.Code.{code as codeOf};
 ghost use Rattle.rules.specs.Answers.{resumeAnswer};
 ghost use Rattle.code.specs.Resuming.{fieldsOf, Ranged, setsOf, arrangeAnswer};
-pub use code_deal::as_deal;
-pub use code_deal::blank;
-pub use code_deal::deal;
-pub use code_deal::deal_refusal;
-pub use code_deal::fresh;
-use code_deal::refused;
+use deal::as_deal;
+use deal::deal_refusal;
+use deal::refused;
 use rules::Position;
 use rules::Started;
-
-const N_PILES: u32 = card::N_PILES as u32;
 
 // Where the fields of a save code begin: the heights at 0, then the piles, the deck, the offset.
 const PILES_AT: u32 = 16;
@@ -35,7 +30,7 @@ pub fn encode(p: Position) -> u64
 {
     let heights = p.heights;
     let counts = p.counts;
-    let gone = p.visible | proper::foundation_mask(&heights);
+    let gone = p.visible | stack::foundation_mask(&heights);
     stack::encode(heights) as u64
         | (hidden::encode(&counts) as u64) << PILES_AT
         | (deck::encode(p, gone) as u64) << DECK_AT
@@ -79,8 +74,8 @@ fn sets_of(p: Position) -> Sets
     let deck = p.deck;
     let left = p.left;
     Sets {
-        foundation: proper::foundation_mask(&heights),
-        deck: hidden::cards_from(&deck, 0, left as usize),
+        foundation: stack::foundation_mask(&heights),
+        deck: card::cards_from(&deck, 0, left as usize),
         buried: hidden::buried_mask(&deal, &counts),
         heads: hidden::head_mask(&deal, &counts),
     }
@@ -96,12 +91,12 @@ fn arranged(mut p: Position) -> Started
     if s.foundation & (s.deck | s.buried | s.heads) != 0 {
         return refused(rules::OVERLAPPING);
     }
-    let visible = proper::FULL & !(s.foundation | s.deck | s.buried);
+    let visible = card::FULL_MASK & !(s.foundation | s.deck | s.buried);
     let free = visible & !s.heads;
     if !proper::pair_rule(free, visible) {
         return refused(rules::UNARRANGED);
     }
-    if proper::count_heads(&counts) + proper::kings(free) > N_PILES {
+    if proper::count_heads(&counts) + proper::kings(free) > card::N_COLUMNS {
         return refused(rules::UNARRANGED);
     }
     p.visible = visible;

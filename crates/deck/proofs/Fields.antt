@@ -16,7 +16,7 @@ use Rattle.bits.proofs.Counts.{list-length}
 use Rattle.rules.specs.declared.Position.{Position}
 use Rattle.rules.specs.Bits.{num, maskOf, countOf, listOf, consIf}
 use Rattle.rules.specs.Places.{stockCard, isBuried, isVisible, inDeck, onFoundation}
-use Rattle.rules.proofs.Searches.{count-snoc}
+use Rattle.bits.proofs.Searches.{count-snoc}
 use Rattle.rules.proofs.Facts.{Facts, sets}
 use Rattle.rules.proofs.Placed.{stock-buried}
 
@@ -49,7 +49,7 @@ elsewhere false false true false h e = absurd (true≢false e)
 elsewhere false false false false h e = absurd (omega arith)
 
 pub still-there : (p : Position) → Facts p → (k : ℕ) → k < 24 → not (isVisible p (stockCard p k) || onFoundation p (stockCard p k)) ≡ inDeck p (stockCard p k)
-unfolding sets stockCard
+unfolding sets
 still-there p x k l =
     let c : ℕ = stockCard p k in
     elsewhere (onFoundation p c) (inDeck p c) (isBuried p c) (isVisible p c) (x .one-set c (x .cards (28 + k) (omega arith))) (stock-buried p (x .deal) (x .counts) k l)

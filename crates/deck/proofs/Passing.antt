@@ -17,7 +17,7 @@ use Rattle.rules.specs.Bits.{num, anyOf, countOf, firstOf}
 use Rattle.rules.specs.Places.{cardAt, stockCard, deckCard, inDeck}
 use Rattle.rules.specs.Proper.{proper, deckRight, strike, inOrder}
 use Rattle.rules.specs.Answers.{stockPlace, findPlace}
-use Rattle.rules.proofs.Searches.{and-left, and-right, and-both, any-yes, yes-any, first-yes, first-least, count-snoc, is-false}
+use Rattle.bits.proofs.Searches.{and-left, and-right, and-both, any-yes, yes-any, first-yes, first-least, count-snoc, is-false}
 use Rattle.rules.proofs.ProperLaw.{parts}
 use Rattle.rules.proofs.Facts.{facts, in-order}
 
@@ -61,7 +61,7 @@ pub record Right (deal deck : List ℕ) (left : ℕ) : Type 0 where
   pub apart : (j k : ℕ) → j < 24 → k < 24 → getD deal (28 + j) 0 ≡ getD deal (28 + k) 0 → j ≡ k
 
 pub right : (p : Position) → T (proper p) → length (p .deal) ≡ 52 → length (p .deck) ≡ 24 → Right (p .deal) (p .deck) (p .left)
-unfolding deckRight cardAt
+unfolding deckRight
 right p t long full =
     let f = facts p t in
     record {
@@ -193,7 +193,7 @@ module _ (p : Position) (card : ℕ) where
 
   -- it is at place k
   pub found-at : (k at : ℕ) → k < 24 → Walk (p .deal) (p .deck) (p .left) k at → Not-yet k → getD (p .deal) (28 + k) 0 ≡ card → at ≡ findPlace p card
-  unfolding findPlace stockPlace stockCard cardAt inDeck deckCard test
+  unfolding findPlace stockPlace inDeck test
   found-at k at l w none e =
       let s : firstOf 24 test ≡ k = first-at 24 test k l (eq-eqb (getD (p .deal) (28 + k) 0) card e) (λ j i y. none j i (eqb-true (getD (p .deal) (28 + j) 0) card y)) in
       w .passed ∙ sym (rw (s, lt-ltb k 24 l) refl)
@@ -208,5 +208,5 @@ module _ (p : Position) (card : ℕ) where
       go false h = ltb-false (firstOf 24 test) 24 h
 
   pub nowhere : Right (p .deal) (p .deck) (p .left) → Not-yet 24 → (false ≡ inDeck p card) × (0 ≡ findPlace p card)
-  unfolding findPlace stockPlace stockCard cardAt inDeck deckCard test
+  unfolding findPlace stockPlace inDeck test
   nowhere r none = (sym (none-left (p .deal) (p .deck) (p .left) r card none), sym (rw (le-ltb (firstOf 24 test) 24 (far none)) refl))

@@ -1,6 +1,7 @@
 // Dealing: the offset after one deal and after many, on bare numbers and on a cursor that is given or lent. Crate `deck` passes these names on.
 ghost use mathlib.Core.Path.{_≡_};
 ghost use Prim.Native.Nat.{_<_, _≤_, _+_, _-_, _/_};
+ghost use Rattle.rules.specs.Proper.{stepRight};
 ghost use Rattle.rules.specs.Dealing.{dealt, deals, cursorOf, pureAt};
 ghost use Rattle.rules.specs.Answers.{cursorRefusal, dealOnceAnswer};
 ghost use Rattle.rules.specs.Code.{storedOffset};
@@ -8,8 +9,15 @@ use bits::min;
 use rules::Cursor;
 use rules::Turned;
 
-// A deck has at most this many cards, and a deal turns at most as many.
-const N_DECK_CARDS: u8 = card::N_DECK_CARDS;
+// A deal turns at most as many cards as the deck has.
+const MAX_STEP: u8 = card::FULL_DECK;
+
+// "step 1 to 24".
+pub fn is_step(step: u8) -> bool
+    ensures { λ r. ⌜ r ≡ stepRight step ⌝ }
+{
+    (0 < step) & (step <= MAX_STEP)
+}
 
 // How many steps go into x, the last one begun counted.
 fn div_ceil(x: u8, step: u8) -> u8
@@ -66,13 +74,10 @@ pub fn normalized_offset(len: u8, step: u8, cur: u8) -> u8
 fn refusal(len: u8, step: u8, cur: u8) -> u8
     ensures { λ r. ⌜ r ≡ cursorRefusal (cursorOf len step cur) ⌝ }
 {
-    if step == 0 {
+    if !is_step(step) {
         return rules::WRONG_STEP;
     }
-    if N_DECK_CARDS < step {
-        return rules::WRONG_STEP;
-    }
-    if N_DECK_CARDS < len {
+    if card::FULL_DECK < len {
         return rules::NOT_PROPER;
     }
     if len < cur {

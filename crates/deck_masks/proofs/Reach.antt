@@ -17,7 +17,7 @@ use Rattle.rules.specs.declared.Position.{Position}
 use Rattle.rules.specs.Bits.{anyOf}
 use Rattle.rules.specs.Places.{deckCard}
 use Rattle.rules.specs.Dealing.{available, availableSoon, placeAvailable, placeSoon}
-use Rattle.rules.proofs.Searches.{any-ext, and-left, and-right, and-both, or-left, or-right}
+use Rattle.bits.proofs.Searches.{any-ext, and-left, and-right, and-both, or-left, or-right}
 use Rattle.rules.proofs.ProperLaw.{any-or}
 use Rattle.bits.proofs.Tables.{same-test}
 use Rattle.rules.proofs.Collect.{collect, any-gap}
@@ -71,7 +71,7 @@ starts-pos off step h k = from-offset off step k h
 -- the first walk, and the last card
 pub soon : (p : Position) (from : ℕ) → p .left ≤ 24 → 0 < p .step → p .offset ≤ p .left → 0 < p .left → getD (p .deck) (p .left - 1) 0 < 52 → Starts from (p .offset) (p .step)
     → bitOr (maskOf 52 (λ c. anyOf (p .left - 1) (find (p .deck) from (p .step) c))) (maskOf 64 (λ k. eqb k (getD (p .deck) (p .left - 1) 0))) ≡ maskOf 52 (availableSoon p)
-unfolding Starts find availableSoon deckCard ahead
+unfolding Starts find availableSoon ahead
 soon p from hl sp ol n low s =
     ap (λ (m : ℕ). bitOr m (maskOf 64 (λ k. eqb k (getD d last 0))))
     (mask-ext 52 (λ c. anyOf last (find d from step c)) (λ c. anyOf last (G c)) (λ c l. any-ext last (find d from step c) (G c) (λ k i. early c k i)))
@@ -125,7 +125,7 @@ pub record Ends (p : Position) (end : ℕ) : Type 0 where
 -- the second walk
 pub round : (p : Position) (end : ℕ) → p .left ≤ 24 → 0 < p .step → p .offset ≤ p .left → Ends p end
     → bitOr (maskOf 52 (availableSoon p)) (maskOf 52 (λ c. anyOf end (find (p .deck) (p .step - 1) (p .step) c))) ≡ maskOf 52 (available p)
-unfolding find availableSoon available deckCard comes
+unfolding find availableSoon available comes
 round p end hl sp ol w = or-masks 52 (availableSoon p) (λ c. anyOf end (E c)) ∙ mask-ext 52 (λ c. availableSoon p c || anyOf end (E c)) (available p) (λ c l. each c)
   where
     d : List ℕ

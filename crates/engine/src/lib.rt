@@ -30,7 +30,7 @@ use rules::Started;
 pub fn deal(step: u8, cards: &[u8]) -> Started
     ensures { λ r. ⌜ r ≡ dealAnswer (now (cards .entry)) step ⌝ }
 {
-    code::deal(step, cards)
+    deal::deal(step, cards)
 }
 
 // The position of a deal that a save code stands for. Refused, the blank position.

@@ -37,7 +37,7 @@ pub fn do_move(p: Position, history: &mut [u16], count: usize, kind: u8, card: u
     if card > card::LAST_CARD {
         return no_move(rules::NO_MOVE, p, count);
     }
-    if !state::is_valid_move(p, kind, card) {
+    if !legal::is_valid_move(p, kind, card) {
         return no_move(rules::NOT_LEGAL, p, count);
     }
     if count == history.len() {

@@ -35,7 +35,7 @@ pub fn masks(p: Position, pruned: bool) -> Masked
             masks: none,
         };
     }
-    let found = prune::hints(p, pruned);
+    let found = hints::masks_for(p, pruned);
     Masked {
         refusal: ACCEPTED,
         position: p,
@@ -71,7 +71,7 @@ pub fn test(p: Position, kind: u8, card: u8) -> Told
     Told {
         refusal: ACCEPTED,
         position: p,
-        yes: state::is_valid_move(p, kind, card),
+        yes: legal::is_valid_move(p, kind, card),
     }
 }
 
@@ -86,7 +86,7 @@ pub fn list_into(p: Position, pruned: bool, out: &mut [u16]) -> Listed
             count: 0,
         };
     }
-    let m = prune::hints(p, pruned);
+    let m = hints::masks_for(p, pruned);
     if out.len() < moves::len(m) as usize {
         return Listed {
             refusal: rules::TOO_SHORT,
@@ -121,7 +121,7 @@ pub fn list_count(p: Position, pruned: bool, room: usize) -> Listed
             count: 0,
         };
     }
-    let n = moves::len(prune::hints(p, pruned)) as usize;
+    let n = moves::len(hints::masks_for(p, pruned)) as usize;
     if room < n {
         return Listed {
             refusal: rules::TOO_SHORT,

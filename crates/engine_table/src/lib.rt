@@ -9,7 +9,7 @@ use rules::Position;
 use rules::Told;
 
 // The bytes that the face-up piles need.
-pub const PILE_BYTES: usize = card::N_PILES as usize * card::N_RANKS as usize;
+pub const PILE_BYTES: usize = card::N_PILES * card::N_RANKS;
 
 // Whether every foundation is full.
 pub fn is_win(p: Position) -> Told

@@ -13,7 +13,7 @@ use Rattle.bits.proofs.Tables.{same-test}
 use Rattle.rules.specs.declared.TurnedUp.the-variants.{Emptied, Card}
 use Rattle.rules.specs.Hidden.{CountsFit, placed, headOf, bareOf}
 use Rattle.hidden.specs.Places.{hasPlace, standsAt, lastOf}
-use Rattle.rules.proofs.Searches.{and-left, and-right, and-both}
+use Rattle.bits.proofs.Searches.{and-left, and-right, and-both}
 
 -- d has x at the place k, which the code reads as j; b says that the pile has such a place
 module _ (d : List ℕ) (x j k : ℕ) (e : j ≡ k) (b : Bool) where

@@ -6,8 +6,7 @@ ghost use lib.Dec.{ltb};
 ghost use lib.ListN.{replicate};
 ghost use Rattle.rules.specs.Code.{countsField, fieldCount, pileCodes, table};
 ghost use Rattle.rules.specs.Hidden.{CountsFit, allUp, downCards};
-
-const N_PILES: usize = card::N_PILES as usize;
+use card::N_PILES;
 
 // Pile fields are below this number.
 const N_CODES: u16 = 40320;

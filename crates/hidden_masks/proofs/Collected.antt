@@ -15,18 +15,14 @@ use Rattle.bits.specs.Bit.{bit, maskOf}
 use Rattle.bits.proofs.Laws.{bit-or, bit-mask, bit-mod, mask-is, mask-lt, mask-ext, mod-64, or-small}
 use Rattle.bits.proofs.Counts.{bit-card}
 use Rattle.bits.proofs.Algebra.{or-masks, mask-cut}
+use Rattle.card.proofs.Gathering.{bit-shifted}
 use Rattle.rules.specs.Bits.{anyOf}
 use Rattle.rules.specs.Places.{pileStart}
 use Rattle.rules.specs.Hidden.{CardsFit, placed, cardsFrom}
-use Rattle.rules.proofs.Searches.{any-ext}
-use Rattle.rules.proofs.Steps.{any-more}
+use Rattle.bits.proofs.Searches.{any-ext, eqb-sym}
+use Rattle.bits.proofs.Steps.{any-more}
 use Rattle.rules.proofs.ProperMade.{none-any}
-use Rattle.rules.proofs.Collect.{eqb-sym}
 use Rattle.rules.proofs.PilePlaces.{pile-low, pile-place}
-
--- `1 << c`
-pub bit-shifted : (c k : ℕ) → k < 64 → bit (1 * 2 ^ c % 2 ^ 64) k ≡ eqb c k
-bit-shifted c k l = bit-mod 64 (1 * 2 ^ c) k l ∙ ap (λ (x : ℕ). bit x k) (one-mul (2 ^ c)) ∙ bit-card c k ∙ eqb-sym k c
 
 -- a mask whose cards are below 52
 pub low-mask : (f : ℕ → Bool) → ((c : ℕ) → 52 ≤ c → f c ≡ false) → maskOf 64 f ≡ maskOf 52 f
@@ -35,19 +31,7 @@ low-mask f h = sym (mask-cut 52 64 f (lit≤ tt) (λ k l m. h k l))
 high-card : (x c : ℕ) → x < 52 → 52 ≤ c → eqb x c ≡ false
 high-card x c h l = ne-eqb x c (λ e. omega arith)
 
--- ---- the bytes at some places, modulo 64
-
-or-card : (f : ℕ → Bool) (c : ℕ) → bitOr (maskOf 64 f) (1 * 2 ^ c % 2 ^ 64) ≡ maskOf 64 (λ k. f k || eqb c k)
-or-card f c =
-    mask-is 64 (λ k. f k || eqb c k) _ (or-small _ _ (mask-lt 64 f) (mod-64 (1 * 2 ^ c)))
-    (λ k l. bit-or (maskOf 64 f) (1 * 2 ^ c % 2 ^ 64) k ∙ ap₂ _||_ (bit-mask 64 f k l) (bit-shifted c k l))
-
-pub cards-step : (d : List ℕ) (s k : ℕ) → bitOr (cardsFrom d s k) (1 * 2 ^ bitAnd (getD d (s + k) 0) 63 % 2 ^ 64) ≡ cardsFrom d s (k + 1)
-unfolding cardsFrom
-cards-step d s k =
-    ap (λ (x : ℕ). bitOr (maskOf 64 (λ c. anyOf k (λ j. eqb (getD d (s + j) 0 % 64) c))) (1 * 2 ^ x % 2 ^ 64)) (and-mask (getD d (s + k) 0) 6)
-    ∙ or-card (λ c. anyOf k (λ j. eqb (getD d (s + j) 0 % 64) c)) (getD d (s + k) 0 % 64)
-    ∙ mask-ext 64 _ _ (λ c l. sym (any-more k (λ j. eqb (getD d (s + j) 0 % 64) c)))
+-- ---- the bytes at some places
 
 -- bytes that are cards
 small-byte : (x c : ℕ) → x < 52 → eqb (x % 64) c ≡ eqb x c

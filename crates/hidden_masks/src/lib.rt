@@ -1,30 +1,13 @@
 // The masks of the locked cards of the seven piles: the heads, the buried cards, the first cards of the piles.
 // A function takes what it reads, the deal and the counts, and requires no more than their ranges. Crate `hidden` passes these names on.
 ghost use mathlib.Core.Path.{_≡_};
-ghost use Prim.Native.Nat.{_+_, _≤_};
 ghost use lib.Dec.{T};
-ghost use lib.ListN.{length};
 ghost use Rattle.bits.specs.Bit.{maskOf};
 ghost use Rattle.rules.specs.Places.{isHead, alone};
 ghost use Rattle.rules.specs.Proper.{proper};
-ghost use Rattle.rules.specs.Hidden.{CardsFit, CountsFit, headIn, buriedIn, lockedIn, baseIn, cardsFrom};
+ghost use Rattle.rules.specs.Hidden.{CardsFit, CountsFit, headIn, buriedIn, lockedIn, baseIn};
+use card::N_PILES;
 use rules::Position;
-
-const N_PILES: usize = card::N_PILES as usize;
-
-// The cards at the n places from start on, each byte modulo 64.
-pub fn cards_from(cards: &[u8], start: usize, n: usize) -> u64
-    requires { ⌜ start + n ≤ length (now cards) ⌝ }
-    ensures { λ r. ⌜ r ≡ cardsFrom (now (cards .entry)) start n ⌝ }
-{
-    let mut mask: u64 = 0;
-    let mut k: usize = 0;
-    while k < n {
-        mask |= 1u64 << (cards[start + k] & 63);
-        k += 1;
-    }
-    mask
-}
 
 // The heads.
 pub fn head_mask(deal: &[u8; 52], counts: &[u8; 7]) -> u64
@@ -64,7 +47,7 @@ pub fn buried_mask(deal: &[u8; 52], counts: &[u8; 7]) -> u64
     while i < N_PILES {
         let n = counts[i] as usize;
         let head = (0 < n) as usize;
-        mask |= cards_from(deal, card::pile_start(i) as usize, n - head);
+        mask |= card::cards_from(deal, card::pile_start(i) as usize, n - head);
         i += 1;
     }
     mask

@@ -5,7 +5,7 @@ ghost use lib.ListN.{length};
 ghost use Rattle.rules.specs.Proper.{proper};
 ghost use Rattle.rules.specs.Legal.{legal};
 ghost use Rattle.rules.specs.Moves.{CardMasks};
-ghost use Rattle.play_moves.specs.Made.{hasWay};
+ghost use Rattle.play.specs.Made.{hasWay};
 use rules::Masks;
 use rules::Position;
 use rules::Started;
@@ -26,7 +26,7 @@ pub extern "C" fn inside_is_proper(p: Position) -> bool {
 pub extern "C" fn inside_masks(p: Position) -> Masks
     requires { ⌜ T (proper p) ⌝ }
 {
-    state::masks(p)
+    legal::masks(p)
 }
 
 #[no_mangle]
@@ -40,7 +40,7 @@ pub extern "C" fn inside_pruned(p: Position) -> Masks
 pub extern "C" fn inside_is_valid_move(p: Position, kind: u8, card: u8) -> bool
     requires { ⌜ T (proper p) × (kind < 5) × (card < 52) ⌝ }
 {
-    state::is_valid_move(p, kind, card)
+    legal::is_valid_move(p, kind, card)
 }
 
 #[no_mangle]

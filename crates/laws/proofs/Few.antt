@@ -22,17 +22,17 @@ use Rattle.rules.specs.Dealing.{available}
 use Rattle.rules.specs.Legal.{isOpen, hasRoom, nextOn, isNext, isTop, pileStackLegal, deckStackLegal, deckPileLegal, stackPileLegal, revealLegal, unpruned, listed, listing}
 use Rattle.rules.specs.Pruned.{pruned}
 use Rattle.rules.specs.Moves.{AllWithin}
-use Rattle.rules.specs.Hidden.{sumOf}
+use Rattle.rules.specs.Hidden.{sumOf, headIn}
 use Rattle.rules.specs.Answers.{masksFor}
-use Rattle.rules.proofs.Searches.{and-left, and-right, num-le, num-mono}
+use Rattle.bits.proofs.Searches.{and-left, and-right, num-le, num-mono}
 use Rattle.rules.proofs.ProperLaw.{Parts, parts, no-card}
 use Rattle.rules.proofs.Facts.{Facts, facts, headCount, sets, kings}
 use Rattle.rules.proofs.HeadsLaw.{headIs, heads-count}
 use Rattle.rules.proofs.PrunedLaw.{pruned-within}
 use Rattle.rules.specs.Demands.{ListsFew}
 use Rattle.laws.proofs.Counting.{count-once}
-use Rattle.laws.proofs.Deck.{available-in}
-use Rattle.laws.proofs.Foundation.{top-there}
+use Rattle.facts.proofs.Deck.{available-in}
+use Rattle.facts.proofs.Foundation.{top-there}
 use Rattle.laws.proofs.VisibleSplit.{visible-is}
 
 -- ---- sums and counts, number by number
@@ -113,7 +113,7 @@ module _ (p : Position) (t : T (proper p)) where
   free-all = omega arith
 
   heads-all : countOf 52 (isHead p) ≡ headCount p
-  unfolding isHead headIs headCount
+  unfolding headIn headIs headCount
   heads-all = heads-count p f 7 (lit≤ tt)
 
   -- as many open pairs as heads and free kings, at most

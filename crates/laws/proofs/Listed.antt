@@ -14,12 +14,12 @@ use Rattle.rules.specs.Legal.{unpruned, listing}
 use Rattle.rules.specs.Pruned.{pruned}
 use Rattle.rules.specs.History.{isKindAndCard}
 use Rattle.rules.specs.Moves.{AllWithin, ofKind}
-use Rattle.rules.proofs.Searches.{num-mono}
+use Rattle.bits.proofs.Searches.{num-mono}
 use Rattle.rules.proofs.ListingLaw.{listed-once, listed-only}
 use Rattle.rules.proofs.MoveMasks.{lists-legal as legal-once}
 use Rattle.rules.proofs.PrunedLaw.{pruned-within}
 use Rattle.rules.specs.Demands.{ListedWithin, ListsLegal}
-use Rattle.laws.proofs.Allowed.{kind-ok, card-ok}
+use Rattle.facts.proofs.Allowed.{kind-ok, card-ok}
 
 pub lists-legal : ListsLegal
 lists-legal p kind c t = let k : isKindAndCard kind c ≡ true = T-true (isKindAndCard kind c) t in legal-once p kind c (kind-ok kind c k) (card-ok kind c k)

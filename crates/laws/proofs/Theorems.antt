@@ -7,22 +7,22 @@ use Rattle.rules.specs.Outcomes.{OneOutcome}
 use Rattle.rules.specs.Demands.{MovesKeepProper, UndoAfterMove, RefusalExact, SaveResumeInverse, PrunedWithin, FreshProper, ResumedProper, CodeOfOne, UndoableSound, UndoableComplete, UndoableUnshaped, EarlierUnique, EntriesFit, ListedWithin, ListsLegal, ListsFew, ShownOnce, BytesShowOnce, PilesArranged}
 use Rattle.rules.proofs.DealsLaw.{deals-right as deals}
 use Rattle.rules.proofs.PrunedLaw.{pruned-within as within}
-use Rattle.laws.proofs.MovesProper.{moves-keep-proper as kept-proper}
+use Rattle.facts.proofs.MovesProper.{moves-keep-proper as kept-proper}
 use Rattle.laws.proofs.UndoMove.{undo-after-move as undone}
 use Rattle.laws.proofs.UndoSound.{undoable-sound as sound}
 use Rattle.laws.proofs.UndoExact.{refusal-exact as exact, undoable-complete as complete, earlier-unique as unique}
 use Rattle.laws.proofs.ShapeNeeded.{shape-needed as needed}
-use Rattle.laws.proofs.EntryFits.{entries-fit as fit}
+use Rattle.facts.proofs.EntryFits.{entries-fit as fit}
 use Rattle.laws.proofs.ResumesSaved.{resumes-saved}
 use Rattle.laws.proofs.SavesResumed.{saves-resumed, resumed-right}
-use Rattle.laws.proofs.FreshProper.{fresh-proper as fresh}
+use Rattle.facts.proofs.FreshProper.{fresh-proper as fresh}
 use Rattle.laws.proofs.OneCode.{code-of-one as one-code}
 use Rattle.laws.proofs.Listed.{listed-within as listed, lists-legal as legal}
 use Rattle.laws.proofs.Few.{lists-few as few}
 use Rattle.laws.proofs.ShownOnce.{shows-once as shown}
 use Rattle.laws.proofs.PileBytes.{bytes-show-once as bytes}
 use Rattle.laws.proofs.Arranged.{piles-arranged as arranged}
-use Rattle.laws_examples.proofs.NotVacuous.{W′, W″, Meets, Differs, calls, later, code, reveal, meets-fresh, meets-resumed, shows}
+use Rattle.laws.proofs.NotVacuous.{W′, W″, Meets, Differs, calls, later, code, reveal, meets-fresh, meets-resumed, shows}
 use Rattle.laws.proofs.Secrets.{keeps-secrets as secrets}
 use Rattle.laws.proofs.OneOutcome.{one-outcome as outcome}
 

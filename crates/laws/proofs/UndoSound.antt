@@ -10,7 +10,7 @@ use Rattle.rules.specs.Play.{undoByte}
 use Rattle.rules.specs.History.{entry, entryByte, entryKind, entryCard, stepBack, undoable}
 use Rattle.rules.proofs.UndoLaw.{kept-deal, kept-step}
 use Rattle.rules.specs.Demands.{UndoableSound}
-use Rattle.laws.proofs.UndoTest.{Passes, passes}
+use Rattle.facts.proofs.UndoTest.{Passes, passes}
 
 -- an entry is made of its parts
 parts : (e : ℕ) → e / 512 * 512 + e / 64 % 8 * 64 + e % 64 ≡ e

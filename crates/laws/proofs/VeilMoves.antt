@@ -8,18 +8,21 @@ use lib.Dec.{eqb, ltb}
 use borrow.Author.Tests.{eqb-true, lt-ltb}
 use Rattle.rules.specs.declared.Position.{Position}
 use Rattle.rules.specs.Cards.{pair, higher, isKing}
-use Rattle.rules.specs.Places.{stockCard, inDeck, count, height, hasHead, head, isHead, isBase, veil, alone}
+use Rattle.rules.specs.Places.{stockCard, inDeck, count, height, hasHead, head, isHead, isBase, alone}
+use Rattle.facts.proofs.Veil.{veil}
 use Rattle.rules.specs.Legal.{isOpen, hasRoom, pileStackLegal, deckStackLegal, deckPileLegal, stackPileLegal, revealLegal, unpruned, legal}
-use Rattle.rules.specs.Code.{code, heightField, pileField, deckField, storedOffset}
-use Rattle.rules.proofs.Searches.{any-ext, mask-ext, and-under}
+use Rattle.rules.specs.Code.{code, heightField, pileField, deckField, storedOffset, countsField}
+use Rattle.bits.proofs.Searches.{any-ext, mask-ext, and-under}
 use Rattle.rules.proofs.ProperLaw.{Fits, Sound, count-fits}
 use Rattle.rules.proofs.HeadPlaces.{base-is}
 use Rattle.laws.proofs.VeilPlaces.{count-same, visible-same, next-same, top-same, available-same, inDeck-same, head-same, isHead-same, stock-same, visibleIn-same, freeIn-same, kings-same}
+use Rattle.rules.specs.Foundations.{fieldOn}
+use Rattle.rules.specs.Hidden.{aloneIn}
 
 module _ (p q : Position) (e : veil p ≡ veil q) where
   pub fields-same :
       _≡_ {A = ℕ × ℕ × ℕ} (heightField p, pileField p, storedOffset (p .left) (p .step) (p .offset)) (heightField q, pileField q, storedOffset (q .left) (q .step) (q .offset))
-  unfolding veil heightField pileField height count
+  unfolding veil fieldOn countsField
   fields-same = λ i. (heightField (e i), pileField (e i), storedOffset (e i .left) (e i .step) (e i .offset))
 
 module _ (p q : Position) (e : veil p ≡ veil q) (pp : Sound p) (qq : Sound q) where
@@ -37,7 +40,7 @@ module _ (p q : Position) (e : veil p ≡ veil q) (pp : Sound p) (qq : Sound q) 
       ap₂ (λ (a b : Bool). a || b) (open-same (c / 2 + 2) (omega arith)) (ap (λ (x : ℕ). isKing c && ltb x 7) (kings-same p q e pp qq))
 
   alone-same : (c : ℕ) → alone p c ≡ alone q c
-  unfolding alone hasHead
+  unfolding aloneIn
   alone-same c =
       any-ext 7 (λ i. eqb (count p i) 1 && eqb (head p i) c) (λ i. eqb (count q i) 1 && eqb (head q i) c)
       (λ i l.

@@ -10,10 +10,11 @@ use borrow.Author.Tests.{ltb-true, ltb-false}
 use Rattle.rules.specs.declared.Position.{Position}
 use Rattle.rules.specs.Bits.{countOf, firstOf}
 use Rattle.rules.specs.Cards.{rank, cardOf, partner}
-use Rattle.rules.specs.Places.{stockCard, inDeck, hasHead, head, isLocked, isVisible, isFree, veil}
+use Rattle.rules.specs.Places.{stockCard, inDeck, hasHead, head, isLocked, isVisible, isFree}
+use Rattle.facts.proofs.Veil.{veil}
 use Rattle.rules.specs.Piles.{tried, run, freeKings, firstRun, rest, pilesFrom, piles}
 use Rattle.rules.specs.Answers.{stockPlace, findPlace}
-use Rattle.rules.proofs.Searches.{count-ext, list-ext, first-ext, first-le}
+use Rattle.bits.proofs.Searches.{count-ext, list-ext, first-ext, first-le}
 use Rattle.rules.proofs.ProperLaw.{Fits, Sound, count-fits, no-card}
 use Rattle.laws.proofs.VeilPlaces.{hasHead-same, visible-same, inDeck-same, head-same, stock-same, free-same}
 

@@ -8,23 +8,24 @@ use Rattle.rules.specs.declared.Position.{Position}
 use Rattle.rules.specs.declared.Masks.{Masks}
 use Rattle.rules.specs.Bits.{bit, maskOf, anyOf}
 use Rattle.rules.specs.Cards.{suit, partner, isKing}
-use Rattle.rules.specs.Places.{height, deckCard, isHead, isBase, isVisible, isFree, veil}
+use Rattle.rules.specs.Places.{height, deckCard, isHead, isBase, isVisible, isFree}
+use Rattle.facts.proofs.Veil.{veil}
 use Rattle.rules.specs.Dealing.{available, placeAvailable, availableSoon, placeSoon}
 use Rattle.rules.specs.Legal.{hasRoom, isNext, pileStackLegal, unpruned}
 use Rattle.rules.specs.Pruned.{_∩_, _∪_, _∖_, lowest, size, pairsOf, wholePairsOf, lower, domRanks, dominant, domMask, nextMask, domNext, pileStackDom, redundant, least, isPure, lastUp, deckForced, deckMask, chosen, stackPileFirst, whenNone, whenPaired, leastPair, extra, suitUnstack, suitFilter, tripleStackable, whenLeast, onlyPileStack, onlyDeckStack, pruned}
 use Rattle.rules.specs.Answers.{masksFor}
-use Rattle.rules.proofs.Searches.{mask-ext}
+use Rattle.bits.proofs.Searches.{mask-ext}
 use Rattle.rules.proofs.ProperLaw.{Sound}
 use Rattle.laws.proofs.VeilPlaces.{visible-same, next-same, free-same}
 use Rattle.laws.proofs.VeilMoves.{room-same, movable-same, pileStack-same, unpruned-same}
 
 module _ (p q : Position) (e : veil p ≡ veil q) where
   pub dom-same : domMask p ≡ domMask q
-  unfolding veil domMask dominant domRanks lower height
+  unfolding veil domMask dominant domRanks lower
   dom-same = ap domMask e
 
   pub nextMask-same : nextMask p ≡ nextMask q
-  unfolding veil nextMask isNext height
+  unfolding veil nextMask isNext
   nextMask-same = ap nextMask e
 
   pub domNext-same : domNext p ≡ domNext q
@@ -32,11 +33,11 @@ module _ (p q : Position) (e : veil p ≡ veil q) where
   domNext-same = ap₂ _∩_ dom-same nextMask-same
 
   pub forced-same : deckForced p ≡ deckForced q
-  unfolding veil deckForced domNext domMask dominant domRanks lower height nextMask isNext lastUp isPure deckCard available placeAvailable
+  unfolding veil deckForced domNext domMask dominant domRanks lower nextMask isNext lastUp isPure available placeAvailable
   forced-same = ap deckForced e
 
   pub deckMask-same : deckMask p ≡ deckMask q
-  unfolding veil deckMask domNext domMask dominant domRanks lower height nextMask isNext lastUp deckCard available placeAvailable availableSoon placeSoon
+  unfolding veil deckMask domNext domMask dominant domRanks lower nextMask isNext lastUp available placeAvailable availableSoon placeSoon
   deckMask-same = ap deckMask e
 
 module _ (p q : Position) (e : veil p ≡ veil q) (pp : Sound p) (qq : Sound q) where

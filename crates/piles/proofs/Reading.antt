@@ -64,9 +64,7 @@ module _ (p : Position) (deal counts : List ℕ) (vis free : ℕ) (r : Reads p d
       (list-ext 4 0 (λ k. bit free (cardOf 12 (0 + k))) (λ s. isFree p (cardOf 12 s)) (λ k l. frees (cardOf 12 (0 + k)) ∙ ap (λ (s : ℕ). isFree p (cardOf 12 s)) (zero-add k)))
 
   pub count-is : (i : ℕ) → getD counts i 0 ≡ count p i
-  unfolding count
   count-is i = ap (λ (l : List ℕ). getD l i 0) (r .locked)
 
   pub head-is : (i : ℕ) → getD deal (pileStart i + (getD counts i 0 - 1)) 0 ≡ head p i
-  unfolding head pileCard cardAt count
   head-is i = rw (r .cards, r .locked)

@@ -71,7 +71,6 @@ module _ (p : Position) (deal counts : List ℕ) (vis free : ℕ) (r : Reads p d
   start = getD deal (pileStart i + (getD counts i 0 - 1)) 0
 
   pub head-turn : (ys : List ℕ) (v : ℕ) → 0 < getD counts i 0 → v ≡ length (runOf vis free 13 start) → ys ≡ row (runOf vis free 13 start) → Shown p free out₀ (back i out ys) (set lens i v) from (i + 1)
-  unfolding hasHead
   head-turn ys v n ev ey =
       let x : runOf vis free 13 start ≡ run p 13 (head p i) = ap (runOf vis free 13) (head-is p deal counts vis free r i) ∙ run-is p deal counts vis free r 13 (head p i) in
       turn (run p 13 (head p i)) ys v from
@@ -80,7 +79,6 @@ module _ (p : Position) (deal counts : List ℕ) (vis free : ℕ) (r : Reads p d
 
   pub empty-turn : (ys : List ℕ) (f : Filled) → getD counts i 0 ≤ 0 → f .len ≡ length (firstRunOf vis free (kingsOf free from)) → kingsOf free (f .from) ≡ rest (kingsOf free from) → ys ≡ row (firstRunOf vis free (kingsOf free from))
       → Shown p free out₀ (back i out ys) (set lens i (f .len)) (f .from) (i + 1)
-  unfolding hasHead
   empty-turn ys f n ev ek ey =
       let x : firstRunOf vis free (kingsOf free from) ≡ firstRun p (kingsOf free from) = first-is p deal counts vis free r (kingsOf free from) in
       turn (firstRun p (kingsOf free from)) ys (f .len) (f .from)

@@ -4,22 +4,19 @@ ghost use Prim.Native.Nat.{_<_, _≤_};
 ghost use lib.Dec.{T};
 ghost use lib.ListN.{length, replicate};
 ghost use Rattle.bits.specs.Bit.{bit};
-ghost use Rattle.rules.specs.Cards.{partner};
 ghost use Rattle.rules.specs.Proper.{proper};
 ghost use Rattle.rules.specs.Piles.{rest, pileLengths, pilesInto};
 ghost use Rattle.piles.specs.Run.{triedOf, runOf, kingsOf, firstRunOf, row};
+use card::Card;
+use card::N_PILES;
+use card::N_RANKS;
 use rules::Position;
 
 // The cards of one rank: one of each suit.
-const N_SUITS: u8 = card::N_SUITS;
+const SUITS: u8 = card::N_SUITS as u8;
 
 // The king of suit 0; the others follow it.
-const KING: u8 = card::KING_RANK * N_SUITS;
-
-const N_PILES: usize = card::N_PILES as usize;
-
-// A pile's part of the lent bytes, one for each rank.
-const N_RANKS: usize = card::N_RANKS as usize;
+const KING: u8 = card::LAST_CARD + 1 - SUITS;
 
 // A byte that shows no card.
 const UNUSED: u8 = 255;
@@ -32,28 +29,20 @@ fn has(m: u64, card: u8) -> bool
     (m >> card) & 1 == 1
 }
 
-// The other card of the pair.
-fn swap_suit(card: u8) -> u8
-    requires { ⌜ card < 52 ⌝ }
-    ensures { λ r. ⌜ r ≡ partner card ⌝ }
-{
-    card ^ 1
-}
-
 // The card to try under a card that is no ace.
 fn next_card(vis: u64, free: u64, card: u8) -> u8
     requires { ⌜ (4 ≤ card) × (card < 52) ⌝ }
     ensures { λ r. ⌜ r ≡ triedOf vis free card ⌝ }
 {
-    let has_both = has(vis, swap_suit(card));
-    let next = card - N_SUITS;
+    let has_both = has(vis, Card(card).swap_suit().0);
+    let next = card - SUITS;
     if has_both {
         return next;
     }
     if has(free, next) {
         return next;
     }
-    swap_suit(next)
+    Card(next).swap_suit().0
 }
 
 // A pile that shows nothing.
@@ -79,7 +68,7 @@ fn fill_run(part: &mut [u8], vis: u64, free: u64, start: u8) -> u8
     loop {
         part[n] = card;
         n += 1;
-        if card < N_SUITS {
+        if card < SUITS {
             break;
         }
         card = next_card(vis, free, card);
@@ -109,7 +98,7 @@ fn fill_empty(part: &mut [u8], vis: u64, free: u64, from: u8) -> Filled
 {
     let mut s = from;
     let next = loop {
-        if N_SUITS <= s {
+        if SUITS <= s {
             break Next::None;
         }
         if has(free, KING + s) {
@@ -129,7 +118,7 @@ fn fill_empty(part: &mut [u8], vis: u64, free: u64, from: u8) -> Filled
             clear(part);
             Filled {
                 len: 0,
-                from: N_SUITS,
+                from: SUITS,
             }
         }
     }

@@ -1,3 +1,9 @@
+pub mod Sight
+pub mod Known
+pub mod EachKind
+pub mod LastKind
+pub mod Written
+pub mod Halfway
 pub mod Ways
 pub mod Same
 pub mod Answered

@@ -11,7 +11,8 @@ use lib.Seq.{length-take-le, getD-take, ext-getD}
 use Rattle.rules.specs.declared.Position.{Position}
 use Rattle.rules.specs.Bits.{sameList}
 use Rattle.rules.specs.History.{samePosition}
-use Rattle.rules.proofs.Searches.{same-list, list-same, is-false}
+use Rattle.bits.proofs.Searches.{is-false}
+use Rattle.rules.proofs.SameList.{same-list, list-same}
 use Rattle.play.specs.Undone.{sameDeck, sameInDeal}
 
 module _ (a b : List ℕ) (n : ℕ) (la : n ≤ length a) (lb : n ≤ length b) where

@@ -17,13 +17,13 @@ use Rattle.rules.specs.Proper.{proper}
 use Rattle.rules.specs.Legal.{legal, revealLegal, hasRoom}
 use Rattle.rules.specs.History.{entryByte, entryKind, entryCard, isKindAndCard, samePosition, stepBack, undoable}
 use Rattle.rules.specs.Play.{lowered, shown, hidden, putBack, turnedBack, withDeck, withHeights, withVisible, before, after, undoByte}
-use Rattle.rules.proofs.Searches.{and-left, and-both, first-least, is-false}
+use Rattle.bits.proofs.Searches.{and-left, and-both, first-least, is-false}
 use Rattle.rules.proofs.Facts.{Facts, facts-of as facts}
-use Rattle.laws.proofs.Piles.{pileOf-deal}
+use Rattle.facts.proofs.DealKept.{pileOf-deal}
 use Rattle.rules.proofs.Placed.{HeadOf, head-of}
-use Rattle.laws.proofs.TurnedBack.{back-stays}
-use Rattle.laws.proofs.UndoTest.{passes}
-use Rattle.play_moves.specs.Made.{leftPile, hasWay}
+use Rattle.facts.proofs.TurnedBack.{back-stays}
+use Rattle.facts.proofs.UndoTest.{passes}
+use Rattle.play.specs.Made.{leftPile, hasWay}
 use Rattle.play.specs.declared.Back.{Back}
 use Rattle.play.specs.Undone.{leadsTo, undone}
 
@@ -40,15 +40,13 @@ module _ (p r : Position) (c : ℕ) (d : r .deal ≡ p .deal) (n : r .counts ≡
   pile = pileOf-deal q p deal c
 
   counts : q .counts ≡ set (p .counts) (pileOf p c) (getD (p .counts) (pileOf p c) 0 + 1)
-  unfolding count
   counts = back-stays r (pileOf p c) .counts ∙ ap (λ (l : List ℕ). set l (pileOf p c) (getD l (pileOf p c) 0 + 1)) n
 
   more : pileOf p c < 7 → count q (pileOf p c) ≡ count p (pileOf p c) + 1
-  unfolding count
   more l = ap (λ (x : List ℕ). getD x (pileOf p c) 0) counts ∙ getD-set-same (p .counts) (pileOf p c) (getD (p .counts) (pileOf p c) 0 + 1) 0 (omega (arith, long))
 
   pub had-left : proper q ≡ true → isHead q c ≡ true → leftPile p c ≡ true
-  unfolding leftPile barePile count pileCard cardAt
+  unfolding leftPile barePile
   had-left h t =
       let f : Facts q = facts q h in
       let w : HeadOf q (f .deal) (f .numbers .counts) c = head-of q (f .deal) (f .numbers .counts) c t in

@@ -8,16 +8,13 @@ ghost use Rattle.rules.specs.Proper.{proper};
 ghost use Rattle.rules.specs.History.{entry as entryOf};
 ghost use Rattle.play.specs.Undone.{sameDeck, sameInDeal, leadsTo, undone};
 use crate::Back;
-use play_moves::do_move;
-use play_moves::has_way;
-use play_moves::undo_move;
+use crate::do_move;
+use crate::has_way;
+use crate::undo_move;
+use card::N_CARDS;
+use card::N_PILES;
+use card::N_SUITS;
 use rules::Position;
-
-const N_PILES: usize = card::N_PILES as usize;
-
-const N_FOUNDATIONS: usize = card::N_SUITS as usize;
-
-const N_CARDS: usize = card::N_CARDS as usize;
 
 // An entry of the history is byte·512 + kind·64 + card: the units of its parts, and how many kinds it has room for.
 const BYTE: u16 = KIND * KINDS;
@@ -63,7 +60,7 @@ fn same_heights(p: Position, q: Position) -> bool
 {
     let a = p.heights;
     let b = q.heights;
-    same_bytes(&a, &b, N_FOUNDATIONS)
+    same_bytes(&a, &b, N_SUITS)
 }
 
 // The cards left are the same. Spare slots don't count.
@@ -111,7 +108,7 @@ fn leads_to(q: Position, byte: u8, kind: u8, card: u8, p: Position) -> bool
     if !proper::is_proper(q) {
         return false;
     }
-    if !state::is_valid_move(q, kind, card) {
+    if !legal::is_valid_move(q, kind, card) {
         return false;
     }
     let again = do_move(q, kind, card);
@@ -145,7 +142,7 @@ pub fn undo(p: Position, entry: u16) -> Back
     if kind > moves::LAST_KIND {
         return none;
     }
-    if card >= card::N_CARDS {
+    if card > card::LAST_CARD {
         return none;
     }
     if !has_way(p, byte, kind, card) {

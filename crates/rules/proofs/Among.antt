@@ -10,7 +10,7 @@ use lib.ListN.{length, getD, take}
 use lib.Seq.{length-take-le, getD-take}
 use borrow.Author.Tests.{lt-ltb}
 use Rattle.rules.specs.Bits.{num, anyOf, times}
-use Rattle.rules.proofs.Searches.{any-ext}
+use Rattle.bits.proofs.Searches.{any-ext}
 
 -- c is in the list
 unfoldable pub among : List ℕ → ℕ → Bool

@@ -1,4 +1,4 @@
--- What is said of a deal and its counts alone is said of the position: the masks, the card turned up, the piles found, the turns.
+-- The pile that a search over the counts finds is the one that the card was dealt to; turning up and back by the counts alone is the position's.
 -- Assumes nothing.
 use mathlib.Core.Bool.{Bool, true, false, _&&_, cond, true≢false}
 use mathlib.Core.Path.{_≡_, refl, sym, ap, ap₂, _∙_}
@@ -17,29 +17,11 @@ use Rattle.rules.specs.Places.{cardAt, pileCard, count, hasHead, head, i
 use Rattle.rules.specs.Code.{countsField, pileField, fieldCount, codeCount, codePiles, table}
 use Rattle.rules.specs.Play.{withCounts, shown, hidden, turned, turnedBack, under}
 use Rattle.rules.specs.Hidden.{placed, headOf, bareOf, headIn, buriedIn, lockedIn, baseIn, headPile, barePile, oneLess, oneMore, underIn, coveredIn, allUp}
-use Rattle.rules.proofs.Searches.{and-left, and-right, and-both, any-yes, yes-any, first-yes}
-use Rattle.rules.proofs.Steps.{first-at, first-none}
+use Rattle.bits.proofs.Searches.{and-left, and-right, and-both, any-yes, yes-any, first-yes}
+use Rattle.bits.proofs.Steps.{first-at, first-none}
 use Rattle.rules.proofs.Placed.{pile-of}
 use Rattle.bits.proofs.Tables.{same-test}
 use Rattle.rules.proofs.Facts.{Facts}
-
--- ---- the sets
-
-pub head-is : (p : Position) (c : ℕ) → headIn (p .deal) (p .counts) c ≡ isHead p c
-unfolding headIn isHead hasHead head pileCard cardAt count
-head-is p c = refl
-
-pub buried-is : (p : Position) (c : ℕ) → buriedIn (p .deal) (p .counts) c ≡ isBuried p c
-unfolding buriedIn isBuried pileCard cardAt count
-buried-is p c = refl
-
-pub locked-in : (p : Position) (c : ℕ) → lockedIn (p .deal) (p .counts) c ≡ isLocked p c
-unfolding lockedIn isLocked pileCard cardAt count
-locked-in p c = refl
-
-pub base-in : (p : Position) (c : ℕ) → baseIn (p .deal) c ≡ isBase p c
-unfolding baseIn isBase pileCard cardAt
-base-in p c = refl
 
 -- ---- the piles
 
@@ -51,7 +33,6 @@ module _ (p : Position) (f : Facts p) where
   -- a search that finds a card at a place of each pile finds the pile that the card was dealt to
   module _ (c : ℕ) (has : ℕ → Bool) (at : ℕ → ℕ) (inside : (i : ℕ) → i < 7 → has i ≡ true → at i ≤ i) where
     found : (i : ℕ) → i < 7 → (has i && eqb (placed (p .deal) i (at i)) c) ≡ true → firstOf 7 (λ j. has j && eqb (placed (p .deal) j (at j)) c) ≡ pileOf p c
-    unfolding pileCard cardAt
     found i l t =
         first-at 7 (λ j. has j && eqb (placed (p .deal) j (at j)) c) i l (λ j s u. omega (arith, sym (to j (omega arith) u) ∙ to i l t)) t ∙ sym (to i l t)
       where
@@ -61,14 +42,14 @@ module _ (p : Position) (f : Facts p) where
             (eqb-true (placed (p .deal) j (at j)) c (and-right (has j) (eqb (placed (p .deal) j (at j)) c) u))
 
   pub head-pile-is : (c : ℕ) → isHead p c ≡ true → headPile (p .deal) (p .counts) c ≡ pileOf p c
-  unfolding headPile isHead hasHead head pileCard cardAt count
+  unfolding headPile headIn
   head-pile-is c t =
       let n = p .counts in
       let u = any-yes 7 (λ i. headOf (p .deal) n c i) t in
       found c (λ i. ltb 0 (getD n i 0)) (λ i. getD n i 0 - 1) (λ i l b. omega (arith, f .counts i l)) (u .0) (u .1) (u .2)
 
   pub bare-pile-is : (i : ℕ) → i < 7 → count p i ≤ i → barePile (p .deal) (p .counts) (pileCard p i (count p i)) ≡ pileOf p (pileCard p i (count p i))
-  unfolding barePile pileCard cardAt count
+  unfolding barePile
   bare-pile-is i l m =
       let n = p .counts in
       let c = placed (p .deal) i (getD n i 0) in
@@ -83,28 +64,10 @@ module _ (p : Position) (f : Facts p) where
       found c (λ j. leb (getD n j 0) j) (λ j. getD n j 0) (λ j s b. leb-true (getD n j 0) j b) (barePile (p .deal) n c) l (first-yes 7 (λ j. bareOf (p .deal) n c j) l)
 
 pub head-pile-none : (p : Position) (c : ℕ) → isHead p c ≡ false → headPile (p .deal) (p .counts) c ≡ 7
-unfolding headPile isHead hasHead head pileCard cardAt count
+unfolding headPile headIn
 head-pile-none p c h = first-none 7 _ (λ j l t. true≢false (sym (yes-any 7 (λ i. headOf (p .deal) (p .counts) c i) j l t) ∙ h))
 
--- ---- the counts
-
-pub all-up-is : (p : Position) → allUp (p .counts) ≡ allOf 7 (λ i. leb (count p i) 1)
-unfolding allUp count
-all-up-is p = refl
-
-pub field-is : (p : Position) → countsField (p .counts) ≡ pileField p
-unfolding countsField pileField count
-field-is p = refl
-
-pub code-counts-are : (x : ℕ) → table 7 (λ i. fieldCount (codePiles x) i) ≡ table 7 (codeCount x)
-unfolding codeCount
-code-counts-are x = refl
-
--- ---- turning up and back
-
-pub under-is : (p : Position) (i : ℕ) → underIn (p .deal) (p .counts) i ≡ under p i
-unfolding underIn under pileCard cardAt count
-under-is p i = refl
+-- ---- turning up and back: what a head's leaving and coming back does to the counts, and the card under it
 
 -- the position with a card that was turned up visible; with a card that is covered again hidden
 unfoldable pub upTurned : Position → TurnedUp → Position
@@ -123,11 +86,11 @@ under-cond g true x y = refl
 under-cond g false x y = refl
 
 pub turned-is : (p : Position) (i : ℕ) → turned p i ≡ upTurned (withCounts p (oneLess (p .counts) i)) (underIn (p .deal) (p .counts) i)
-unfolding turned upTurned oneLess underIn pileCard cardAt count
+unfolding turned upTurned oneLess underIn
 turned-is p i = sym (under-cond (upTurned (withCounts p (oneLess (p .counts) i))) (ltb 1 (getD (p .counts) i 0)) _ _)
 
 pub turned-back-is : (p : Position) (i : ℕ) → turnedBack p i ≡ upHidden (withCounts p (oneMore (p .counts) i)) (coveredIn (p .deal) (p .counts) i)
-unfolding turnedBack upHidden oneMore coveredIn pileCard cardAt count
+unfolding turnedBack upHidden oneMore coveredIn
 turned-back-is p i = sym (under-cond (upHidden (withCounts p (oneMore (p .counts) i))) (ltb 0 (getD (p .counts) i 0)) _ _)
 
 -- a head that leaves and comes back: the counts are the old ones, and it covers what it had uncovered

@@ -9,8 +9,9 @@ use borrow.Author.Tests.{eqb-true, ltb-true, eq-eqb}
 use Rattle.rules.specs.declared.Position.{Position}
 use Rattle.rules.specs.Bits.{anyOf, allOf}
 use Rattle.rules.specs.Places.{pileStart, count, hasHead, placeBuried}
-use Rattle.rules.proofs.Searches.{and-left, and-right, all-yes, any-yes, is-false}
+use Rattle.bits.proofs.Searches.{and-left, and-right, all-yes, any-yes, is-false}
 use Rattle.rules.proofs.ProperLaw.{Fits}
+use Rattle.rules.specs.Hidden.{buriedAt}
 
 -- a place of the piles is in one pile, at one depth: 28 by 28 tests
 apart : ℕ → ℕ → ℕ → ℕ → Bool
@@ -54,7 +55,7 @@ in-pile a l =
 
 -- a buried place is a place of a pile, before the last of its locked ones
 pub buried-in : (p : Position) → Fits p → (a : ℕ) → placeBuried p a ≡ true → (i : ℕ) × (k : ℕ) × (i < 7) × (k ≤ i) × (k + 1 < count p i) × (pileStart i + k ≡ a)
-unfolding placeBuried
+unfolding buriedAt
 buried-in p h a b =
     let u = any-yes 7 (λ i. anyOf (count p i - 1) (λ k. eqb (pileStart i + k) a)) b in
     let w = any-yes (count p (u .0) - 1) (λ k. eqb (pileStart (u .0) + k) a) (u .2) in
@@ -64,7 +65,6 @@ buried-in p h a b =
 
 -- a head's place is not buried
 pub head-place : (p : Position) → Fits p → (i : ℕ) → i < 7 → hasHead p i ≡ true → placeBuried p (pileStart i + (count p i - 1)) ≡ false
-unfolding hasHead
 head-place p h i hi t = is-false (placeBuried p (pileStart i + (count p i - 1))) clash
   where
     clash : placeBuried p (pileStart i + (count p i - 1)) ≡ true → ⊥

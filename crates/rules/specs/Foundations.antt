@@ -2,9 +2,14 @@
 use mathlib.Core.Bool.{Bool}
 use mathlib.Core.List.{List}
 use Prim.Native.Nat.{ℕ, _+_, _-_, _*_, _^_, min}
-use lib.Dec.{eqb, leb}
+use lib.Dec.{eqb, ltb, leb}
 use lib.ListN.{getD, set}
 use Rattle.rules.specs.Bits.{allOf}
+use Rattle.rules.specs.Cards.{rank, suit}
+
+-- the card is on its foundation
+unfoldable pub stackedOn : List ℕ → ℕ → Bool
+stackedOn heights c = ltb (rank c) (getD heights (suit c) 0)
 
 -- the foundation of suit s one higher; one lower, and a foundation of height 0 stays
 unfoldable pub raisedOn : List ℕ → ℕ → List ℕ

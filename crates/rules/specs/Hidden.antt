@@ -1,14 +1,17 @@
 -- Document 01, "The position", of a deal and seven counts alone: the locked cards of the piles, as they are found, turned up and turned back.
--- Each is the position's own, which proofs/HiddenLaw.antt shows.
+-- Places says the same of a position, by these.
 use mathlib.Core.Bool.{Bool, _&&_, cond}
 use mathlib.Core.List.{List}
-use Prim.Native.Nat.{ℕ, zero, suc, _+_, _-_, _%_, _≤_, _<_}
+use Prim.Native.Nat.{ℕ, zero, suc, _+_, _-_, _≤_, _<_}
 use lib.Dec.{eqb, ltb, leb}
 use lib.ListN.{getD, set}
 use Rattle.rules.specs.declared.TurnedUp.{TurnedUp}
 use Rattle.rules.specs.declared.TurnedUp.the-variants.{Emptied, Card}
-use Rattle.rules.specs.Bits.{maskOf, anyOf, allOf, firstOf}
-use Rattle.rules.specs.Places.{pileStart}
+use Rattle.rules.specs.Bits.{anyOf, allOf, firstOf}
+-- "Pile i (0 to 6) takes i+1 cards from its start": starts 0, 1, 3, 6, 10, 15, 21
+unfoldable pub use Rattle.card.specs.Cards.{pileStart}
+-- the cards at the k places of d from s on, each byte taken modulo 64: cardsFrom d s k
+unfoldable pub use Rattle.card.specs.Cards.{cardsFrom}
 
 -- "A deal is 52 card numbers": each is below 52. "seven counts n_i from 0 to i+1"
 abbrev pub CardsFit : List ℕ → Type 0
@@ -21,22 +24,35 @@ CountsFit n = (i : ℕ) → i < 7 → getD n i 0 ≤ i + 1
 abbrev pub placed : List ℕ → ℕ → ℕ → ℕ
 placed d i k = getD d (pileStart i + k) 0
 
--- "The first n_i places of pile i are locked; the last of them is the head, the ones before it are buried"
+-- "The first n_i places of pile i are locked"
 unfoldable pub lockedIn : List ℕ → List ℕ → ℕ → Bool
 lockedIn d n c = anyOf 7 (λ i. anyOf (getD n i 0) (λ k. eqb (placed d i k) c))
 
-unfoldable pub buriedIn : List ℕ → List ℕ → ℕ → Bool
-buriedIn d n c = anyOf 7 (λ i. anyOf (getD n i 0 - 1) (λ k. eqb (placed d i k) c))
-
+-- "the last of them is the head": pile i has one when n_i is not 0
 abbrev pub headOf : List ℕ → List ℕ → ℕ → ℕ → Bool
 headOf d n c i = ltb 0 (getD n i 0) && eqb (placed d i (getD n i 0 - 1)) c
 
 unfoldable pub headIn : List ℕ → List ℕ → ℕ → Bool
 headIn d n c = anyOf 7 (λ i. headOf d n c i)
 
+-- "the ones before it are buried": a card, and a place of the deal
+unfoldable pub buriedIn : List ℕ → List ℕ → ℕ → Bool
+buriedIn d n c = anyOf 7 (λ i. anyOf (getD n i 0 - 1) (λ k. eqb (placed d i k) c))
+
+unfoldable pub buriedAt : List ℕ → ℕ → Bool
+buriedAt n k = anyOf 7 (λ i. anyOf (getD n i 0 - 1) (λ j. eqb (pileStart i + j) k))
+
 -- "the base of its pile": the first card of one of the piles
 unfoldable pub baseIn : List ℕ → ℕ → Bool
 baseIn d c = anyOf 7 (λ i. eqb (placed d i 0) c)
+
+-- a head c that is the one card of its pile's locked places. (A head is at its base just then: `base-is` of proofs/HeadPlaces)
+unfoldable pub aloneIn : List ℕ → List ℕ → ℕ → Bool
+aloneIn d n c = anyOf 7 (λ i. eqb (getD n i 0) 1 && eqb (placed d i (getD n i 0 - 1)) c)
+
+-- the pile that a card was dealt to, or 7 for a card of the deck
+unfoldable pub dealtTo : List ℕ → ℕ → ℕ
+dealtTo d c = firstOf 7 (λ i. anyOf (i + 1) (λ k. eqb (placed d i k) c))
 
 -- the pile whose head is c; the pile whose first card that is not locked is c, the card that a head left last. 7 where there is none
 unfoldable pub headPile : List ℕ → List ℕ → ℕ → ℕ
@@ -72,7 +88,3 @@ sumOf (suc n) f = f 0 + sumOf n (λ k. f (suc k))
 
 unfoldable pub downCards : List ℕ → ℕ
 downCards n = sumOf 7 (λ i. getD n i 0 - 1)
-
--- the cards at the k places of d from s on, each byte taken modulo 64
-unfoldable pub cardsFrom : List ℕ → ℕ → ℕ → ℕ
-cardsFrom d s k = maskOf 64 (λ c. anyOf k (λ j. eqb (getD d (s + j) 0 % 64) c))

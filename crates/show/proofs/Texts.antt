@@ -17,7 +17,7 @@ use Rattle.rules.specs.Proper.{stepRight, areCards, areDifferent, proper}
 use Rattle.rules.specs.Answers.{_refuses_else_, accepted, dealRefusal, dealAnswer, saveAnswer, masksAnswer, masksFor, improper}
 use Rattle.rules.specs.Show.{digits, hexLine, masksText, shown, refusedLine, showText}
 use Rattle.bits.proofs.Tables.{T-true}
-use Rattle.laws.proofs.FreshProper.{fresh-proper}
+use Rattle.facts.proofs.FreshProper.{fresh-proper}
 
 -- the calls of a proper position are not refused
 pub code-told : (p : Position) → T (proper p) → saveAnswer p .code ≡ code p

@@ -1,4 +1,4 @@
-// The masks that the four heights give: the next cards, and those that may go up at once. Crate `stack` passes these names on.
+// The masks that the four heights give: the next cards, those that may go up at once, those that lie there. Crate `stack` passes these names on.
 ghost use mathlib.Core.Path.{_≡_};
 ghost use mathlib.Core.Bool.{_&&_};
 ghost use Prim.Native.Nat.{ℕ, _<_, _≤_};
@@ -6,6 +6,7 @@ ghost use lib.Dec.{eqb, ltb};
 ghost use lib.ListN.{getD};
 ghost use Rattle.bits.specs.Bit.{maskOf};
 ghost use Rattle.rules.specs.Cards.{suit as suitOf, rank};
+ghost use Rattle.rules.specs.Foundations.{stackedOn};
 ghost use Rattle.rules.specs.Legal.{nextOn};
 ghost use Rattle.rules.specs.Pruned.{dominantOn};
 use bits::min;
@@ -48,4 +49,18 @@ pub fn dominance_mask(heights: [u8; 4]) -> u64
     let b = min(d0, d1 + 1) + 2;
     (card::colour_mask(0) & full_mask((a as u32) * 4))
         | (card::colour_mask(1) & full_mask((b as u32) * 4))
+}
+
+// The cards on the foundations.
+pub fn foundation_mask(heights: &[u8; 4]) -> u64
+    requires { ⌜ ((s : ℕ) → s < 4 → getD (now heights) s 0 ≤ 13) ⌝ }
+    ensures { λ r. ⌜ r ≡ maskOf 52 (stackedOn (now (heights .entry))) ⌝ }
+{
+    let mut mask: u64 = 0;
+    let mut s: usize = 0;
+    while s < card::N_SUITS {
+        mask |= card::suit_mask(s) & ((1u64 << (4 * heights[s])) - 1);
+        s += 1;
+    }
+    mask
 }

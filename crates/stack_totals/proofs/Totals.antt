@@ -62,5 +62,5 @@ unfolding isWin
 win-full p = refl
 
 pub valid-heights : (p : Position) → allOf 4 (λ s. leb (height p s) 13) ≡ validOn (p .heights)
-unfolding validOn height
+unfolding validOn
 valid-heights p = refl

@@ -9,7 +9,7 @@ use lib.Dec.{eqb, leb, leb·zero}
 use lib.ListN.{getD}
 use borrow.Author.Tests.{leb-true, leb-false, eq-eqb, ne-eqb}
 use Rattle.rules.specs.Bits.{allOf}
-use Rattle.rules.proofs.Searches.{all-ext}
+use Rattle.bits.proofs.Searches.{all-ext}
 
 -- each height lies from low to high
 abbrev pub within : List ℕ → ℕ → ℕ → Bool

@@ -8,9 +8,7 @@ ghost use lib.ListN.{getD};
 ghost use Rattle.rules.specs.Bits.{allOf};
 ghost use Rattle.rules.specs.Foundations.{validOn, fullOn, emptyOn, cardsOn, fieldOn};
 ghost use Rattle.rules.specs.Code.{table, codeHeight};
-
-// The height of a full foundation.
-const N_RANKS: u8 = card::N_RANKS;
+use card::FULL_HEIGHT;
 
 // A height takes four bits of the save code: the values that they have, and the lowest four bits.
 const FIELD: u32 = 16;
@@ -39,14 +37,14 @@ fn all_within(heights: [u8; 4], low: u8, high: u8) -> bool
 pub fn is_valid(heights: [u8; 4]) -> bool
     ensures { λ r. ⌜ r ≡ validOn heights ⌝ }
 {
-    all_within(heights, 0, N_RANKS)
+    all_within(heights, 0, FULL_HEIGHT)
 }
 
 // Is every foundation full?
 pub fn is_full(heights: [u8; 4]) -> bool
     ensures { λ r. ⌜ r ≡ fullOn heights ⌝ }
 {
-    all_within(heights, N_RANKS, N_RANKS)
+    all_within(heights, FULL_HEIGHT, FULL_HEIGHT)
 }
 
 // Is every foundation empty?

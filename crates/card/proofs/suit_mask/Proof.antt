@@ -13,9 +13,6 @@ use Rattle.card.proofs.suit_mask.Tie as tie
 values : List ℕ
 values = 0x4141_4141_4141_4141 ∷ 0x8282_8282_8282_8282 ∷ 0x1414_1414_1414_1414 ∷ 0x2828_2828_2828_2828 ∷ []
 
-cast-if1 : tie.Need-cast-if1
-cast-if1 c = search needs
-
 mul-result : tie.Need-mul-result
 mul-result c = search needs
 
@@ -31,4 +28,4 @@ unfolding suitMask
 returns-2 c = none-there suit 4 (c .before .args .suit) suit-low (c .if1 .left)
 
 pub suit-mask-spec : {M : Type 1} → statement M
-suit-mask-spec = tie.close (tie.spec cast-if1 mul-result array-read-result returns returns-2)
+suit-mask-spec = tie.close (tie.spec mul-result array-read-result returns returns-2)

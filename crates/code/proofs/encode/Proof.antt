@@ -16,7 +16,6 @@ ranges : (p : Position) → T (proper p) → Numbers p
 ranges p t = numbers p (parts p (T-true (proper p) t) .numbers)
 
 foundation-mask-requires : tie.Need-foundation-mask-requires
-unfolding height
 foundation-mask-requires c κs = let s = c .before .before .before in ranges (s .args .p) (s .pre) .heights
 
 encode-requires : tie.Need-encode-requires
@@ -26,7 +25,6 @@ cast-result : tie.Need-cast-result
 cast-result c = search needs
 
 encode-requires-2 : tie.Need-encode-requires-2
-unfolding count
 encode-requires-2 c κs = let s = c .before .before .before .before .before .before .before in ranges (s .args .p) (s .pre) .counts
 
 cast-result-2 : tie.Need-cast-result-2

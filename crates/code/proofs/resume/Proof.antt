@@ -18,9 +18,9 @@ use Rattle.rules.specs.Answers.{dealRefusal, offsetWrong, resumeAnswer}
 use Rattle.rules.proofs.ProperMade.{step-low}
 use Rattle.rules.proofs.Refusing.{Dealt, deal-passed}
 use Rattle.code.specs.declared.Fields.{Fields}
-use Rattle.code_deal.specs.Starts.{startedBy}
+use Rattle.deal.specs.Starts.{startedBy}
 use Rattle.code.specs.Resuming.{fieldsOf, Ranged, arrangeAnswer}
-use Rattle.code_deal.proofs.Answered.{is-refused}
+use Rattle.deal.proofs.Answered.{is-refused}
 use Rattle.code.proofs.Parts.{heights-is, valid-is, left-is, deck-is, parts-are, ranged}
 use Rattle.code.proofs.Ends.{offset-high, offset-unstored, offset-right, refused-deal, resume-tests}
 use Rattle.code.proofs.resume.Statement.{statement}

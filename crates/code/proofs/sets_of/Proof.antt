@@ -7,11 +7,11 @@ use Rattle.rules.specs.Bits.{maskOf}
 use Rattle.rules.specs.Places.{count, height, cardAt, pileCard, deckCard, isBuried, hasHead, head, isHead, inDeck, onFoundation}
 use Rattle.rules.proofs.Shape.{shape}
 use Rattle.rules.specs.Hidden.{buriedIn, headIn}
-use Rattle.proper_sets.specs.Masks.{stacked}
-use Rattle.proper_sets.proofs.Sets.{cards-are}
+use Rattle.proper.proofs.Sets.{cards-are}
 use Rattle.code.specs.Resuming.{setsOf}
 use Rattle.code.proofs.sets_of.Statement.{statement}
 use Rattle.code.proofs.sets_of.Tie as tie
+use Rattle.rules.specs.Foundations.{stackedOn}
 
 foundation-mask-requires : tie.Need-foundation-mask-requires
 foundation-mask-requires c κs = search needs
@@ -34,7 +34,7 @@ head-mask-requires : tie.Need-head-mask-requires
 head-mask-requires c κs = search needs
 
 returns : tie.Need-returns
-unfolding setsOf onFoundation height inDeck deckCard isBuried isHead hasHead head pileCard cardAt count stacked buriedIn headIn
+unfolding setsOf stackedOn inDeck buriedIn headIn
 returns c =
     let f = c .before .before .before .before .before .before .before .before in
     let b = f .before .before .before .before .before .before in

@@ -8,7 +8,7 @@ use Prim.Native.Nat.{ℕ, _+_, _-_, _≤_, _<_}
 use native.Mathlib.Omega.{arith}
 use Rattle.bits.specs.Bit.{bit, countOf}
 use lib.ListN.{getD, set}
-use Rattle.rules.proofs.Searches.{count-le}
+use Rattle.bits.proofs.Searches.{count-le}
 use Rattle.deck_slots.proofs.Slots.{filled, fill-start, fill-turn, fill-end}
 use Rattle.deck.proofs.Fields.{placed, placed-length, placed-at, count-none, count-next, count-below, is-set, is-clear}
 use borrow.Author.Needs.{needs}

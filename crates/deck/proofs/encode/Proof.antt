@@ -24,7 +24,6 @@ abbrev μ-loop : tie.MeasureT-loop
 
 -- the deal's bytes are cards
 card : (c : tie.At-loop Inv-loop μ-loop) → (k : ℕ) → k < 24 → getD (c .before .before .args .p .deal) (28 + k) 0 < 52
-unfolding cardAt
 card c k l = let s = c .before .before in facts (s .args .p) (s .pre .0) .cards (28 + k) (omega arith)
 
 low : (c : tie.In-loop Inv-loop μ-loop) → getD (c .before .before .before .args .p .deal) (28 + (c .before .loop .k - 1)) 0 < 52
@@ -72,7 +71,7 @@ loop-again c =
     )
 
 returns : tie.Need-returns Inv-loop μ-loop
-unfolding deckField stockCard cardAt
+unfolding deckField
 returns c =
     let l = c .before .loop in
     let s = c .before .before .before in

@@ -46,7 +46,7 @@ cast-t15 : tie.Need-cast-t15 Inv-loop μ-loop
 cast-t15 c = omega (arith, ordered (c .before .before .before .before) .fits, c .before .before .before .loop .inv .0 .low)
 
 returns : tie.Need-returns Inv-loop μ-loop
-unfolding inDeck deckCard
+unfolding inDeck
 returns c =
     let l = c .before .before .before .loop in
     let p = c .before .before .before .before .before .before .before .args .p in

@@ -1,40 +1,39 @@
 -- `deck_cursor::refusal` meets its contract.
 -- Assumes nothing.
-use native.Mathlib.Omega.{arith}
-use Prim.Native.Nat.{_<_}
-use borrow.Author.Tests.{lt-ltb, le-ltb, le-leb, lt-leb}
+use mathlib.Core.Bool.{true, false}
+use mathlib.Core.Path.{_≡_, sym, _∙_}
+use borrow.Author.Needs.{needs}
+use borrow.Author.Tests.{not-true, not-false, lt-ltb, le-ltb}
 use Rattle.rules.specs.Proper.{stepRight}
 use Rattle.rules.specs.Answers.{cursorRefusal}
 use Rattle.deck_cursor.proofs.refusal.Statement.{statement}
 use Rattle.deck_cursor.proofs.refusal.Tie as tie
 
+-- the step is none, or it is one
+wrong-step : (c : tie.Then1) → stepRight (c .before .before .args .step) ≡ false
+wrong-step c = sym (c .before .is-step .ensures) ∙ not-true (c .before .is-step .result) (c .if1 .taken)
+
+right-step : (c : tie.Else1) → stepRight (c .before .before .args .step) ≡ true
+right-step c = sym (c .before .is-step .ensures) ∙ not-false (c .before .is-step .result) (c .if1 .left)
+
+is-step-requires : tie.Need-is-step-requires
+is-step-requires c κs = search needs
+
 returns : tie.Need-returns
-unfolding cursorRefusal stepRight
-returns c = simp (c .if1 .taken)
+unfolding cursorRefusal
+returns c = simp (wrong-step c)
 
 returns-2 : tie.Need-returns-2
-unfolding cursorRefusal stepRight
-returns-2 c =
-    let some : 0 < c .before .before .args .step = omega arith in
-    simp (lt-ltb _ _ some, lt-leb _ _ (c .if2 .taken))
+unfolding cursorRefusal
+returns-2 c = simp (right-step (c .before), lt-ltb _ _ (c .if2 .taken))
 
 returns-3 : tie.Need-returns-3
-unfolding cursorRefusal stepRight
-returns-3 c =
-    let some : 0 < c .before .before .before .args .step = omega arith in
-    simp (lt-ltb _ _ some, le-leb _ _ (c .before .if2 .left), lt-ltb _ _ (c .if3 .taken))
+unfolding cursorRefusal
+returns-3 c = simp (right-step (c .before .before), le-ltb _ _ (c .before .if2 .left), lt-ltb _ _ (c .if3 .taken))
 
 returns-4 : tie.Need-returns-4
-unfolding cursorRefusal stepRight
-returns-4 c =
-    let some : 0 < c .before .before .before .before .args .step = omega arith in
-    simp (lt-ltb _ _ some, le-leb _ _ (c .before .before .if2 .left), le-ltb _ _ (c .before .if3 .left), lt-ltb _ _ (c .if4 .taken))
-
-returns-5 : tie.Need-returns-5
-unfolding cursorRefusal stepRight
-returns-5 c =
-    let some : 0 < c .before .before .before .before .args .step = omega arith in
-    simp (lt-ltb _ _ some, le-leb _ _ (c .before .before .if2 .left), le-ltb _ _ (c .before .if3 .left), le-ltb _ _ (c .if4 .left))
+unfolding cursorRefusal
+returns-4 c = simp (right-step (c .before .before), le-ltb _ _ (c .before .if2 .left), le-ltb _ _ (c .if3 .left))
 
 pub refusal-spec : {M : Type 1} → statement M
-refusal-spec = tie.close (tie.spec returns returns-2 returns-3 returns-4 returns-5)
+refusal-spec = tie.close (tie.spec is-step-requires returns returns-2 returns-3 returns-4)

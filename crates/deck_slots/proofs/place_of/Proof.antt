@@ -8,7 +8,7 @@ use lib.Dec.{eqb}
 use lib.ListN.{getD}
 use borrow.Author.Count.{below-more}
 use borrow.Author.Tests.{eqb-true, eq-eqb}
-use Rattle.rules.proofs.Steps.{first-at, first-none}
+use Rattle.bits.proofs.Steps.{first-at, first-none}
 use borrow.Author.Needs.{needs}
 use Rattle.deck_slots.proofs.place_of.Statement.{statement}
 use Rattle.deck_slots.proofs.place_of.Tie as tie

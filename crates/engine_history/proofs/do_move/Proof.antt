@@ -12,9 +12,9 @@ use Rattle.rules.specs.declared.Moved.{Moved}
 use Rattle.rules.specs.Proper.{proper}
 use Rattle.rules.specs.History.{entry, isKindAndCard}
 use Rattle.rules.specs.Answers.{moveAnswer, moveRefusal, moveHistory}
-use Rattle.laws.proofs.EntryFits.{byte-fits}
-use Rattle.play_moves.specs.declared.Made.{Made}
-use Rattle.play_moves.specs.Made.{made}
+use Rattle.facts.proofs.EntryFits.{byte-fits}
+use Rattle.play.specs.declared.Made.{Made}
+use Rattle.play.specs.Made.{made}
 use Rattle.play.proofs.Answered.{denied, granted}
 use Rattle.proper.proofs.Judged.{is-wrong, is-right, is-proper}
 use Rattle.engine_history.proofs.do_move.Statement.{statement}

@@ -16,8 +16,8 @@ returns : tie.Need-returns
 unfolding listingAnswer listingRefusal
 returns c = rw (is-wrong (c .before .before .args .p) (c .before .is-proper .ensures) (c .if1 .taken))
 
-hints-requires : tie.Need-hints-requires
-hints-requires c κs = is-proper (c .before .before .args .p) (c .before .is-proper .ensures) (c .if1 .left)
+masks-for-requires : tie.Need-masks-for-requires
+masks-for-requires c κs = is-proper (c .before .before .args .p) (c .before .is-proper .ensures) (c .if1 .left)
 
 len-requires : tie.Need-len-requires
 len-requires c κs = search needs
@@ -31,7 +31,7 @@ returns-2 c =
     let s = c .before .before .before .before .before in
     let e = c .before .before .before .before .is-proper .ensures in
     let h = c .before .before .before .if1 .left in
-    rw (is-right (s .args .p) e h, hint-count (s .args .p) (shape (s .args .p) _ (s .good .0)) (is-proper (s .args .p) e h) (s .args .pruned) (c .before .before .hints .ensures) (c .before .len .ensures), lt-ltb _ _ (c .if2 .taken))
+    rw (is-right (s .args .p) e h, hint-count (s .args .p) (shape (s .args .p) _ (s .good .0)) (is-proper (s .args .p) e h) (s .args .pruned) (c .before .before .masks-for .ensures) (c .before .len .ensures), lt-ltb _ _ (c .if2 .taken))
 
 returns-3 : tie.Need-returns-3
 unfolding listingAnswer listingRefusal
@@ -39,9 +39,9 @@ returns-3 c =
     let s = c .before .before .before .before .before in
     let e = c .before .before .before .before .is-proper .ensures in
     let h = c .before .before .before .if1 .left in
-    rw (is-right (s .args .p) e h, hint-count (s .args .p) (shape (s .args .p) _ (s .good .0)) (is-proper (s .args .p) e h) (s .args .pruned) (c .before .before .hints .ensures) (c .before .len .ensures), le-ltb _ _ (c .if2 .left))
+    rw (is-right (s .args .p) e h, hint-count (s .args .p) (shape (s .args .p) _ (s .good .0)) (is-proper (s .args .p) e h) (s .args .pruned) (c .before .before .masks-for .ensures) (c .before .len .ensures), le-ltb _ _ (c .if2 .left))
 
 pub list-count-spec : {M : Type 1} → statement M
 list-count-spec =
     tie.close
-    (tie.spec is-proper-requires returns hints-requires len-requires cast-n returns-2 returns-3)
+    (tie.spec is-proper-requires returns masks-for-requires len-requires cast-n returns-2 returns-3)

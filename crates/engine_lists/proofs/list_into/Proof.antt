@@ -22,8 +22,8 @@ returns : tie.Need-returns
 unfolding listingAnswer listingRefusal listingInto listingFront
 returns c = rw (is-wrong (c .before .before .before .args .p) (c .before .is-proper .ensures) (c .if1 .taken)) (refl, refl)
 
-hints-requires : tie.Need-hints-requires
-hints-requires c κs = is-proper (c .before .before .before .args .p) (c .before .is-proper .ensures) (c .if1 .left)
+masks-for-requires : tie.Need-masks-for-requires
+masks-for-requires c κs = is-proper (c .before .before .before .args .p) (c .before .is-proper .ensures) (c .if1 .left)
 
 len-requires : tie.Need-len-requires
 len-requires c κs = search needs
@@ -37,7 +37,7 @@ returns-2 c =
     let s = c .before .before .before .before .before .before in
     let e = c .before .before .before .before .is-proper .ensures in
     let h = c .before .before .before .if1 .left in
-    rw (is-right (s .args .p) e h, hint-count (s .args .p) (shape (s .args .p) _ (s .good .0)) (is-proper (s .args .p) e h) (s .args .pruned) (c .before .before .hints .ensures) (c .before .len .ensures), lt-ltb _ _ (c .if2 .taken))
+    rw (is-right (s .args .p) e h, hint-count (s .args .p) (shape (s .args .p) _ (s .good .0)) (is-proper (s .args .p) e h) (s .args .pruned) (c .before .before .masks-for .ensures) (c .before .len .ensures), lt-ltb _ _ (c .if2 .taken))
     (refl, refl)
 
 list-into-requires : tie.Need-list-into-requires
@@ -45,7 +45,7 @@ list-into-requires c κs =
     let s = c .before .before .before .before .before .before .before in
     let e = c .before .before .before .before .before .is-proper .ensures in
     let h = c .before .before .before .before .if1 .left in
-    hint-cards (s .args .p) (shape (s .args .p) _ (s .good .0)) (is-proper (s .args .p) e h) (s .args .pruned) (c .before .before .before .hints .ensures)
+    hint-cards (s .args .p) (shape (s .args .p) _ (s .good .0)) (is-proper (s .args .p) e h) (s .args .pruned) (c .before .before .before .masks-for .ensures)
 
 same-length : tie.Need-same-length
 same-length c = search needs
@@ -56,7 +56,7 @@ returns-3 c =
     let s = c .before .before .before .before .before .before .before .before .before .before in
     let e = c .before .before .before .before .before .before .before .before .is-proper .ensures in
     let h = c .before .before .before .before .before .before .before .if1 .left in
-    let m = c .before .before .before .before .before .before .hints .ensures in
+    let m = c .before .before .before .before .before .before .masks-for .ensures in
     let n = c .before .before .before .before .before .len .ensures in
     let g = shape (s .args .p) _ (s .good .0) in
     let t = is-proper (s .args .p) e h in
@@ -74,7 +74,7 @@ list-into-spec =
     (tie.spec
     is-proper-requires
     returns
-    hints-requires
+    masks-for-requires
     len-requires
     cast-if2
     returns-2

@@ -19,14 +19,14 @@ returns : tie.Need-returns
 unfolding masksAnswer improper
 returns c = rw (is-wrong (c .before .before .before .args .p) (c .before .is-proper .ensures) (c .if1 .taken), c .before .before .no-masks .ensures)
 
-hints-requires : tie.Need-hints-requires
-hints-requires c κs = is-proper (c .before .before .before .args .p) (c .before .is-proper .ensures) (c .if1 .left)
+masks-for-requires : tie.Need-masks-for-requires
+masks-for-requires c κs = is-proper (c .before .before .before .args .p) (c .before .is-proper .ensures) (c .if1 .left)
 
 returns-2 : tie.Need-returns-2
 unfolding masksAnswer improper
 returns-2 c =
     let p = c .before .before .before .before .args .p in
-    rw (is-right p (c .before .before .is-proper .ensures) (c .before .if1 .left)) (ap {B = Masked} (λ (m : Masks). record { refusal = 0; position = p; masks = m }) (c .hints .ensures))
+    rw (is-right p (c .before .before .is-proper .ensures) (c .before .if1 .left)) (ap {B = Masked} (λ (m : Masks). record { refusal = 0; position = p; masks = m }) (c .masks-for .ensures))
 
 pub masks-spec : {M : Type 1} → statement M
-masks-spec = tie.close (tie.spec no-masks-requires is-proper-requires returns hints-requires returns-2)
+masks-spec = tie.close (tie.spec no-masks-requires is-proper-requires returns masks-for-requires returns-2)

@@ -9,7 +9,7 @@ use native.Mathlib.Omega.{arith}
 use lib.ListN.{getD}
 use borrow.Author.Count.{below-more}
 use Rattle.rules.specs.Places.{pileStart}
-use Rattle.rules.proofs.Steps.{first-at, first-none}
+use Rattle.bits.proofs.Steps.{first-at, first-none}
 use Rattle.hidden.specs.Places.{hasPlace, standsAt}
 use Rattle.hidden_masks.proofs.Collected.{in-deal}
 use Rattle.hidden.proofs.Found.{card-there, other-card, no-place, place-fits, place-some}

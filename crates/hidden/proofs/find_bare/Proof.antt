@@ -3,7 +3,7 @@
 use borrow.Author.Needs.{needs}
 use mathlib.Core.Path.{_∙_}
 use Rattle.rules.specs.Hidden.{barePile}
-use Rattle.rules.proofs.Searches.{first-ext}
+use Rattle.bits.proofs.Searches.{first-ext}
 use Rattle.hidden.proofs.Found.{bare-stands}
 use Rattle.hidden.proofs.find_bare.Statement.{statement}
 use Rattle.hidden.proofs.find_bare.Tie as tie

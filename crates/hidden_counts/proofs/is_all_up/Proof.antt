@@ -8,7 +8,7 @@ use native.Mathlib.Omega.{arith}
 use lib.Dec.{leb}
 use lib.ListN.{getD}
 use borrow.Author.Tests.{lt-leb, le-leb}
-use Rattle.rules.proofs.Steps.{all-more, no-all}
+use Rattle.bits.proofs.Steps.{all-more, no-all}
 use Rattle.rules.specs.Bits.{allOf}
 use Rattle.rules.specs.Hidden.{allUp}
 use Rattle.hidden_counts.proofs.is_all_up.Statement.{statement}

@@ -5,7 +5,7 @@ use mathlib.Core.Path.{_≡_, refl, sym, ap₂, _∙_}
 use Prim.Native.Nat.{ℕ, _+_, _-_, _*_, _≤_}
 use native.Mathlib.Omega.{arith}
 use lib.ListN.{getD}
-use Rattle.rules.proofs.Steps.{sum-more}
+use Rattle.rules.proofs.Sums.{sum-more}
 use Rattle.rules.specs.Hidden.{sumOf, downCards}
 use Rattle.hidden_counts.proofs.Head.{less-one, some-le}
 use Rattle.hidden_counts.proofs.total_down_cards.Statement.{statement}

@@ -10,7 +10,7 @@ use borrow.Author.Tests.{leb-true}
 use Rattle.bits.proofs.Laws.{mask-ext}
 use Rattle.rules.specs.Bits.{allOf, anyOf}
 use Rattle.rules.specs.Hidden.{headIn, baseIn}
-use Rattle.rules.proofs.Searches.{all-yes}
+use Rattle.bits.proofs.Searches.{all-yes}
 use Rattle.hidden_masks.proofs.base_mask.Statement.{statement}
 use Rattle.hidden_masks.proofs.base_mask.Tie as tie
 

@@ -38,11 +38,9 @@ abbrev μ-loop : tie.MeasureT-loop
 
 -- the head of pile i stands at a place of the deal, and is a card
 place : (p : Position) → T (proper p) → (i : ℕ) → i < 7 → 0 < getD (p .counts) i 0 → pileStart i + (getD (p .counts) i 0 - 1) < 52
-unfolding count
 place p t i l n = pile-place i (getD (p .counts) i 0 - 1) l (omega (arith, facts p t .counts i l))
 
 card : (p : Position) → T (proper p) → (i : ℕ) → i < 7 → 0 < getD (p .counts) i 0 → getD (p .deal) (pileStart i + (getD (p .counts) i 0 - 1)) 0 < 52
-unfolding head hasHead pileCard cardAt count
 card p t i l n = head-low p (facts p t) i l (lt-ltb 0 (getD (p .counts) i 0) n)
 
 -- a pile's part has 13 bytes

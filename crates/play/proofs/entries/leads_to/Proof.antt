@@ -7,9 +7,9 @@ use borrow.Author.Tests.{eq-eqb, ne-eqb}
 use Rattle.bits.proofs.Tables.{true-T}
 use Rattle.rules.specs.Play.{after}
 use Rattle.rules.proofs.Facts.{facts}
-use Rattle.laws.proofs.Moving.{after-deal}
-use Rattle.play_moves.specs.declared.Made.{Made}
-use Rattle.play_moves.specs.Made.{made}
+use Rattle.facts.proofs.DealKept.{after-deal}
+use Rattle.play.specs.declared.Made.{Made}
+use Rattle.play.specs.Made.{made}
 use Rattle.play.specs.Undone.{sameInDeal, leadsTo}
 use Rattle.play.proofs.Answered.{denied, granted}
 use Rattle.play.proofs.Same.{same-is}

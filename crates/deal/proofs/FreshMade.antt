@@ -1,0 +1,38 @@
+-- A fresh position, put together from the deal, its last 24 cards and the mask of its heads.
+-- Assumes nothing.
+use mathlib.Core.Path.{_≡_, sym, ap₂, _∙_}
+use mathlib.Core.List.{List, [], _∷_}
+use Prim.Native.Nat.{ℕ, _+_, _-_, _≤_, _<_}
+use native.Mathlib.Omega.{arith}
+use lib.ListN.{length, getD, take, drop, replicate, length-drop}
+use lib.Seq.{take-at, length-take-le}
+use Rattle.rules.specs.declared.Position.{Position}
+use Rattle.rules.specs.Bits.{maskOf}
+use Rattle.rules.specs.Places.{pileCard, cardAt, count, hasHead, head, isHead}
+use Rattle.rules.specs.Play.{slots, withVisible}
+use Rattle.rules.specs.Code.{table, freshParts, fresh}
+use Rattle.rules.proofs.SameList.{getD-table}
+use Rattle.rules.specs.Hidden.{headIn}
+
+-- "Pile i takes i+1 cards": every pile whole
+abbrev pub whole : List ℕ
+whole = 1 ∷ 2 ∷ 3 ∷ 4 ∷ 5 ∷ 6 ∷ 7 ∷ []
+
+pub whole-fits : (i : ℕ) → i < 7 → getD whole i 0 ≤ i + 1
+unfolding table
+whole-fits i l = omega (arith, getD-table 7 (λ k. k + 1) i l)
+
+-- a full deck fills the slots
+pub slots-full : (xs : List ℕ) → length xs ≡ 24 → slots xs ≡ xs
+unfolding slots
+slots-full xs e = take-at xs (replicate 24 0) 24 e
+
+stock-long : (d : List ℕ) → length d ≡ 52 → length (take 24 (drop 28 d)) ≡ 24
+stock-long d e = length-take-le 24 (drop 28 d) (simp length-drop (omega arith))
+
+pub fresh-made : (d deck : List ℕ) (step heads : ℕ) → length d ≡ 52 → deck ≡ take 24 (drop 28 d) → heads ≡ maskOf 52 (headIn d whole) →
+    _≡_ {A = Position} (record { deal = d; step = step; counts = whole; heights = 0 ∷ 0 ∷ 0 ∷ 0 ∷ []; deck = deck; left = 24; offset = 0; visible = heads }) (fresh d step)
+unfolding fresh freshParts withVisible table headIn
+fresh-made d deck step heads l ed eh =
+    ap₂ (λ (x : List ℕ) (m : ℕ). record { deal = d; step = step; counts = whole; heights = 0 ∷ 0 ∷ 0 ∷ 0 ∷ []; deck = x; left = 24; offset = 0; visible = m })
+    (ed ∙ sym (slots-full (take 24 (drop 28 d)) (stock-long d l))) eh

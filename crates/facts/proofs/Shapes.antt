@@ -1,0 +1,74 @@
+-- A move, and going back, keep the lengths of the arrays. Assumes nothing.
+use mathlib.Core.Bool.{Bool, true, false, cond}
+use mathlib.Core.List.{_++_, _∷_}
+use mathlib.Core.Path.{ap, _∙_}
+use Prim.Native.Nat.{ℕ, zero, suc, _+_, _-_}
+use lib.Dec.{eqb}
+use lib.ListN.{length, take, drop, set, length-set}
+use Rattle.rules.specs.declared.Position.{Position}
+use Rattle.rules.specs.Cards.{suit}
+use Rattle.rules.specs.Places.{count, height, isHead, pileOf}
+use Rattle.rules.specs.Foundations.{raisedOn, loweredOn}
+use Rattle.rules.specs.Play.{withVisible, withHeights, withDeck, raised, lowered, shown, hidden, deckPlace, drawn, putBack, turned, turnedBack, after, before}
+use Rattle.rules.specs.Proper.{Shaped}
+use Rattle.facts.proofs.Deck.{slots-length}
+use Rattle.facts.proofs.TurnedFields.{Stays, turned-stays}
+use Rattle.facts.proofs.TurnedBack.{back-stays}
+
+module _ (p : Position) (c : ℕ) (s : Shaped p) where
+  raised-shape : Shaped (raised p c)
+  unfolding raised withHeights raisedOn
+  raised-shape = record { deal = s .deal; counts = s .counts; heights = length-set (p .heights) (suit c) (height p (suit c) + 1) ∙ s .heights; deck = s .deck }
+
+  lowered-shape : Shaped (lowered p c)
+  unfolding lowered withHeights loweredOn
+  lowered-shape = record { deal = s .deal; counts = s .counts; heights = length-set (p .heights) (suit c) (height p (suit c) - 1) ∙ s .heights; deck = s .deck }
+
+  shown-shape : Shaped (shown p c)
+  unfolding shown withVisible
+  shown-shape = record { deal = s .deal; counts = s .counts; heights = s .heights; deck = s .deck }
+
+  hidden-shape : Shaped (hidden p c)
+  unfolding hidden withVisible
+  hidden-shape = record { deal = s .deal; counts = s .counts; heights = s .heights; deck = s .deck }
+
+  drawn-shape : Shaped (drawn p c)
+  unfolding drawn withDeck
+  drawn-shape = record { deal = s .deal; counts = s .counts; heights = s .heights; deck = slots-length (take (deckPlace p c) (p .deck) ++ drop (deckPlace p c + 1) (take (p .left) (p .deck))) }
+
+  put-shape : (o : ℕ) → Shaped (putBack p c o)
+  unfolding putBack withDeck
+  put-shape o = record { deal = s .deal; counts = s .counts; heights = s .heights; deck = slots-length (take (p .offset) (p .deck) ++ (c ∷ drop (p .offset) (take (p .left) (p .deck)))) }
+
+  stays-shape : (q : Position) (i n : ℕ) → Stays p q (set (p .counts) i n) → Shaped q
+  stays-shape q i n t = record { deal = ap length (t .deal) ∙ s .deal; counts = ap length (t .counts) ∙ length-set (p .counts) i n ∙ s .counts; heights = ap length (t .heights) ∙ s .heights; deck = ap length (t .deck) ∙ s .deck }
+
+  turned-shape : (i : ℕ) → Shaped (turned p i)
+  turned-shape i = stays-shape (turned p i) i (count p i - 1) (turned-stays p i)
+
+  back-shape : (i : ℕ) → Shaped (turnedBack p i)
+  back-shape i = stays-shape (turnedBack p i) i (count p i + 1) (back-stays p i)
+
+either-shape : (b : Bool) (x y : Position) → Shaped x → Shaped y → Shaped (cond b x y)
+either-shape true x y s t = s
+either-shape false x y s t = t
+
+pub after-shape : (p : Position) (kind c : ℕ) → Shaped p → Shaped (after p kind c)
+unfolding after
+after-shape p zero c s = drawn-shape (raised p c) c (raised-shape p c s)
+after-shape p (suc zero) c s =
+    let t : Shaped (hidden (raised p c) c) = hidden-shape (raised p c) c (raised-shape p c s) in
+    either-shape (isHead p c) (turned (hidden (raised p c) c) (pileOf p c)) (hidden (raised p c) c) (turned-shape (hidden (raised p c) c) c t (pileOf p c)) t
+after-shape p (suc (suc zero)) c s = drawn-shape (shown p c) c (shown-shape p c s)
+after-shape p (suc (suc (suc zero))) c s = shown-shape (lowered p c) c (lowered-shape p c s)
+after-shape p (suc (suc (suc (suc n)))) c s = turned-shape p c s (pileOf p c)
+
+pub before-shape : (p : Position) (byte kind c : ℕ) → Shaped p → Shaped (before p byte kind c)
+unfolding before
+before-shape p byte zero c s = put-shape (lowered p c) c (lowered-shape p c s) byte
+before-shape p byte (suc zero) c s =
+    let t : Shaped (shown (lowered p c) c) = shown-shape (lowered p c) c (lowered-shape p c s) in
+    either-shape (eqb byte 0) (shown (lowered p c) c) (turnedBack (shown (lowered p c) c) (pileOf p c)) t (back-shape (shown (lowered p c) c) c t (pileOf p c))
+before-shape p byte (suc (suc zero)) c s = put-shape (hidden p c) c (hidden-shape p c s) byte
+before-shape p byte (suc (suc (suc zero))) c s = raised-shape (hidden p c) c (hidden-shape p c s)
+before-shape p byte (suc (suc (suc (suc n)))) c s = back-shape p c s (pileOf p c)

@@ -1,0 +1,1 @@
+// Facts about the definitions, for the code and the theorems above: antt alone, no function.
