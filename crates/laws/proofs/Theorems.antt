@@ -4,11 +4,13 @@ use Rattle.rules.specs.Dealing.{DealsRight}
 use Rattle.rules.specs.Worked.{W}
 use Rattle.rules.specs.Secrecy.{dealtFresh, KeepsSecrets}
 use Rattle.rules.specs.Outcomes.{OneOutcome}
-use Rattle.rules.specs.Demands.{MovesKeepProper, UndoAfterMove, RefusalExact, SaveResumeInverse, PrunedWithin, FreshProper, ResumedProper, CodeOfOne, UndoableSound, UndoableComplete, UndoableUnshaped, EarlierUnique, EntriesFit, ListedWithin, ListsLegal, ListsFew, ShownOnce, BytesShowOnce, PilesArranged}
+use Rattle.rules.specs.Demands.{MovesKeepProper, UndoAfterMove, UndoSame, UndoWholeGame, RefusalExact, SaveResumeInverse, PrunedWithin, FreshProper, ResumedProper, CodeOfOne, UndoableSound, UndoableComplete, UndoableUnshaped, EarlierUnique, EntriesFit, ListedWithin, ListsLegal, ListsFew, ShownOnce, BytesShowOnce, PilesArranged}
 use Rattle.rules.proofs.DealsLaw.{deals-right as deals}
 use Rattle.rules.proofs.PrunedLaw.{pruned-within as within}
 use Rattle.facts.proofs.MovesProper.{moves-keep-proper as kept-proper}
 use Rattle.laws.proofs.UndoMove.{undo-after-move as undone}
+use Rattle.laws.proofs.UndoSame.{undo-same as same}
+use Rattle.laws.proofs.UndoGame.{undo-whole-game as whole}
 use Rattle.laws.proofs.UndoSound.{undoable-sound as sound}
 use Rattle.laws.proofs.UndoExact.{refusal-exact as exact, undoable-complete as complete, earlier-unique as unique}
 use Rattle.laws.proofs.ShapeNeeded.{shape-needed as needed}
@@ -74,6 +76,12 @@ pub code-of-one : CodeOfOne
 code-of-one = one-code
 
 -- ---- undo and the history
+
+pub undo-whole-game : UndoWholeGame
+undo-whole-game = whole
+
+pub undo-same : UndoSame
+undo-same = same
 
 pub undoable-sound : UndoableSound
 undoable-sound = sound
