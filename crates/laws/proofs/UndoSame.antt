@@ -18,7 +18,7 @@ use Rattle.rules.specs.Answers.{_refuses_else_, accepted, lastEntry, undoRefusa
 use Rattle.rules.specs.Demands.{UndoSame}
 use Rattle.rules.proofs.Facts.{facts-of}
 use Rattle.rules.proofs.Refusing.{refuses-same}
-use Rattle.laws.proofs.Allowed.{undo-allowed}
+use Rattle.facts.proofs.Allowed.{undo-allowed}
 use Rattle.laws.proofs.Spare.{tidy, same-tidy, tidy-same, tidy-proper, tidy-legal, tidy-byte}
 use Rattle.laws.proofs.SpareMoves.{tidy-after, tidy-before}
 
