@@ -14,7 +14,7 @@ use Rattle.rules.specs.declared.Position.{Position}
 use Rattle.rules.specs.Bits.{anyOf, allOf}
 use Rattle.rules.specs.Places.{count, height, cardAt, pileCard, deckCard, isBuried, hasHead, head, isHead, isVisible, isFree, inDeck, onFoundation}
 use Rattle.rules.specs.Proper.{pairRule, sevenRule}
-use Rattle.rules.specs.Play.{withVisible}
+use Rattle.rules.specs.Fields.{withVisible}
 use Rattle.rules.specs.Code.{workedOut}
 use Rattle.rules.specs.Refusals.{_refuses_else_, overlapping, unarranged}
 use Rattle.rules.specs.Answers.{overlaps}
@@ -61,7 +61,7 @@ module _ (p : Position) where
       ∙ and-not-masks 52 52 (λ c. true) (λ c. onFoundation p c || inDeck p c || isBuried p c) (lit≤ tt) (lit≤ tt)
 
   meets-of : eqb (meetsOf (setsOf p)) 0 ≡ not (overlaps (worked p))
-  unfolding setsOf overlaps withVisible stackedOn inDeck buriedIn headIn
+  unfolding setsOf overlaps stackedOn inDeck buriedIn headIn
   meets-of =
       ap (λ (x : ℕ). eqb x 0)
       (ap (bitAnd (maskOf 52 (onFoundation p))) (ap (λ (x : ℕ). bitOr x (maskOf 52 (isHead p))) (or-masks 52 (inDeck p) (isBuried p)) ∙ or-masks 52 (λ c. inDeck p c || isBuried p c) (isHead p))
@@ -74,7 +74,7 @@ module _ (p : Position) where
       meets = table 4 (λ f d h b. f && (d || b || h)) (λ f d h b. f && (d || (h || b))) tt
 
   free-of : bitAnd (workedOut p) ((2 ^ 64 - 1) - maskOf 52 (isHead p)) ≡ maskOf 52 (isFree (worked p))
-  unfolding workedOut isFree isVisible withVisible buriedIn headIn
+  unfolding workedOut isFree isVisible buriedIn headIn
   free-of =
       and-not-masks 52 52 others (isHead p) (lit≤ tt) (lit≤ tt)
       ∙ mask-ext 52 _ _ (λ c l. seen (onFoundation p c) (inDeck p c) (isHead p c) (isBuried p c)
@@ -96,11 +96,9 @@ module _ (p : Position) where
     free-is = ap₂ (λ (v h : ℕ). bitAnd v ((2 ^ 64 - 1) - h)) visible-is (ap (λ (s : Sets). s .heads) e) ∙ free-of
 
     pub pairs-is : pairsFit (freeOf s) (visibleOf s) ≡ pairRule (worked p)
-    unfolding withVisible
     pairs-is = ap₂ pairsFit free-is visible-is ∙ pairs-were (worked p)
 
     pub seven-is : leb (countOf 7 (λ i. ltb 0 (getD (p .counts) i 0)) + countOf 4 (λ k. bit (freeOf s) (48 + k))) 7 ≡ sevenRule (worked p)
-    unfolding withVisible
     seven-is = ap (λ (f : ℕ). leb (countOf 7 (λ i. ltb 0 (getD (p .counts) i 0)) + countOf 4 (λ k. bit f (48 + k))) 7) free-is ∙ seven-was (worked p)
 
 -- the refusal by what the two tests say

@@ -27,6 +27,8 @@ use Rattle.rules.proofs.Digits.{below4, has-bit, stored-fits, code-fits}
 use Rattle.rules.proofs.DealLaw.{cards-low}
 use Rattle.code.specs.Resuming.{Ranged}
 use Rattle.code.proofs.Arranging.{all-not}
+use Rattle.rules.specs.Fields.{withCounts, withHeights, withSlots, withOffset}
+use Rattle.rules.specs.Code.{begun}
 
 -- ---- put together: each field stands above the bits of those before it
 
@@ -95,10 +97,10 @@ module _ (x : ℕ) where
   deck-is d = ap (λ (l : List ℕ). slots (map (λ k. getD d k 0) l)) (list-ext 24 28 (bit (x / 2 ^ 32 % 2 ^ 24)) (codeHas x) (has-bit x))
 
   pub parts-are : (d deal counts heights deck : List ℕ) (step left offset : ℕ) → deal ≡ d → counts ≡ table 7 (codeCount x) → heights ≡ table 4 (codeHeight x) → deck ≡ deckOf d (codeHas x) → left ≡ codeLeft x → offset ≡ codeOffset x →
-      _≡_ {A = Position} (record { deal = deal; step = step; counts = counts; heights = heights; deck = deck; left = left; offset = offset; visible = 0 }) (codeParts d step x)
+      _≡_ {A = Position} (withOffset (withSlots (withHeights (withCounts (begun deal step) counts) heights) deck left) offset) (codeParts d step x)
   unfolding codeParts
   parts-are d deal counts heights deck step left offset ed ec eh ek el eo i =
-      record { deal = ed i; step = step; counts = ec i; heights = eh i; deck = ek i; left = el i; offset = eo i; visible = 0 }
+      withOffset (withSlots (withHeights (withCounts (begun (ed i) step) (ec i)) (eh i)) (ek i) (el i)) (eo i)
 
 -- ---- the ranges of what is taken apart
 

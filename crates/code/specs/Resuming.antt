@@ -10,7 +10,7 @@ use Rattle.rules.specs.Hidden.{CardsFit, CountsFit}
 use Rattle.code.specs.declared.Fields.{Fields}
 use Rattle.code.specs.declared.Sets.{Sets}
 use Rattle.rules.specs.Proper.{pairRule, sevenRule}
-use Rattle.rules.specs.Play.{withVisible}
+use Rattle.rules.specs.Fields.{withVisible}
 use Rattle.rules.specs.Code.{codePiles, codeOffset, workedOut}
 use Rattle.rules.specs.Refusals.{_refuses_else_, overlapping, unarranged}
 use Rattle.rules.specs.Answers.{overlaps}

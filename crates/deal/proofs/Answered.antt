@@ -4,7 +4,7 @@ use mathlib.Core.Path.{_≡_, sym, ap, _∙_}
 use Prim.Native.Nat.{ℕ, zero, suc}
 use Rattle.rules.specs.declared.Position.{Position}
 use Rattle.rules.specs.declared.Started.{Started}
-use Rattle.rules.specs.Code.{blank}
+use Rattle.rules.specs.Fields.{blank}
 use Rattle.deal.specs.Starts.{refusedBy, startedBy}
 
 pub is-refused : (n r : ℕ) (p : Position) → n ≡ r → (n ≡ 0 → ⊥) → refusedBy n ≡ startedBy r p

@@ -9,10 +9,12 @@ use lib.Seq.{take-at, length-take-le}
 use Rattle.rules.specs.declared.Position.{Position}
 use Rattle.rules.specs.Bits.{maskOf}
 use Rattle.rules.specs.Places.{pileCard, cardAt, count, hasHead, head, isHead}
-use Rattle.rules.specs.Play.{slots, withVisible}
+use Rattle.rules.specs.Play.{slots}
+use Rattle.rules.specs.Fields.{withCounts, withSlots, withVisible}
 use Rattle.rules.specs.Code.{table, freshParts, fresh}
 use Rattle.rules.proofs.SameList.{getD-table}
 use Rattle.rules.specs.Hidden.{headIn}
+use Rattle.rules.specs.Code.{begun}
 
 -- "Pile i takes i+1 cards": every pile whole
 abbrev pub whole : List ℕ
@@ -31,8 +33,8 @@ stock-long : (d : List ℕ) → length d ≡ 52 → length (take 24 (drop 28 d))
 stock-long d e = length-take-le 24 (drop 28 d) (simp length-drop (omega arith))
 
 pub fresh-made : (d deck : List ℕ) (step heads : ℕ) → length d ≡ 52 → deck ≡ take 24 (drop 28 d) → heads ≡ maskOf 52 (headIn d whole) →
-    _≡_ {A = Position} (record { deal = d; step = step; counts = whole; heights = 0 ∷ 0 ∷ 0 ∷ 0 ∷ []; deck = deck; left = 24; offset = 0; visible = heads }) (fresh d step)
-unfolding fresh freshParts withVisible table headIn
+    _≡_ {A = Position} (withVisible (withSlots (withCounts (begun d step) whole) deck 24) heads) (fresh d step)
+unfolding fresh freshParts table headIn
 fresh-made d deck step heads l ed eh =
-    ap₂ (λ (x : List ℕ) (m : ℕ). record { deal = d; step = step; counts = whole; heights = 0 ∷ 0 ∷ 0 ∷ 0 ∷ []; deck = x; left = 24; offset = 0; visible = m })
+    ap₂ (λ (x : List ℕ) (m : ℕ). withVisible (withSlots (withCounts (begun d step) whole) x 24) m)
     (ed ∙ sym (slots-full (take 24 (drop 28 d)) (stock-long d l))) eh

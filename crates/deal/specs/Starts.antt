@@ -2,7 +2,7 @@
 use Prim.Native.Nat.{ℕ}
 use Rattle.rules.specs.declared.Position.{Position}
 use Rattle.rules.specs.declared.Started.{Started}
-use Rattle.rules.specs.Code.{blank}
+use Rattle.rules.specs.Fields.{blank}
 use Rattle.rules.specs.Refusals.{accepted}
 
 -- refused: "A fresh deal or resume has no given position and returns the blank one"

@@ -2,7 +2,8 @@
 ghost use mathlib.Core.Path.{_≡_};
 ghost use lib.ListN.{length, take, drop};
 ghost use Rattle.rules.specs.Hidden.{CardsFit};
-ghost use Rattle.rules.specs.Code.{fresh as freshOf, blank as blankOne};
+ghost use Rattle.rules.specs.Fields.{blank as blankOne};
+ghost use Rattle.rules.specs.Code.{fresh as freshOf};
 ghost use Rattle.rules.specs.Answers.{dealRefusal, dealAnswer};
 ghost use Rattle.deal.specs.Starts.{refusedBy};
 use card::N_CARDS;

@@ -11,7 +11,8 @@ use borrow.Author.Tests.{ltb-true}
 use Rattle.rules.specs.declared.Position.{Position}
 use Rattle.rules.specs.Bits.{anyOf, firstOf}
 use Rattle.rules.specs.Places.{pileStart, cardAt, pileCard, count, hasHead, head, isHead, pileOf}
-use Rattle.rules.specs.Play.{withVisible, withHeights, withCounts, withDeck, raised, lowered, shown, hidden, drawn, turned, after}
+use Rattle.rules.specs.Play.{withDeck, raised, lowered, shown, hidden, drawn, turned, after}
+use Rattle.rules.specs.Fields.{withVisible, withHeights, withCounts}
 use Rattle.bits.proofs.Searches.{and-left, and-right, any-yes, yes-any, first-least}
 use Rattle.rules.proofs.ProperLaw.{Fits}
 use Rattle.rules.proofs.UndoLaw.{same-either}
@@ -19,11 +20,11 @@ use Rattle.rules.specs.Hidden.{dealtTo, headIn}
 
 -- a move keeps the deal
 turned-deal : (p : Position) (i : ℕ) → turned p i .deal ≡ p .deal
-unfolding turned shown withVisible withCounts
+unfolding turned shown
 turned-deal p i = same-either (λ q. q .deal) (ltb 1 (count p i)) _ _ p refl refl
 
 pub after-deal : (p : Position) (kind c : ℕ) → after p kind c .deal ≡ p .deal
-unfolding after drawn withDeck lowered raised withHeights shown hidden withVisible
+unfolding after drawn lowered raised shown hidden
 after-deal p zero c = refl
 after-deal p (suc zero) c =
     same-either (λ q. q .deal) (isHead p c) (turned (hidden (raised p c) c) (pileOf p c)) (hidden (raised p c) c) p (turned-deal (hidden (raised p c) c) (pileOf p c)) refl

@@ -86,7 +86,7 @@ module _ (p : Position) (c : ℕ) (e : length (p .deck) ≡ 24) (l : p .left ≤
 
   -- drawn: what is left is the two parts
   pub drawn-list : deckList (drawn p c) ≡ take (deckPlace p c) (deckList p) ++ drop (deckPlace p c + 1) (deckList p)
-  unfolding deckList drawn withDeck
+  unfolding deckList drawn
   drawn-list =
       let k : ℕ = deckPlace p c in
       let rest : List ℕ = drop (k + 1) (take (p .left) (p .deck)) in
@@ -97,19 +97,19 @@ module _ (p : Position) (c : ℕ) (e : length (p .deck) ≡ 24) (l : p .left ≤
       slots-front (take k (p .deck) ++ rest) (p .left - 1) len (omega arith) ∙ ap (λ (xs : List ℕ). xs ++ rest) front
 
   pub drawn-length : length (drawn p c .deck) ≡ 24
-  unfolding drawn withDeck
+  unfolding drawn
   drawn-length = slots-length (take (deckPlace p c) (p .deck) ++ drop (deckPlace p c + 1) (take (p .left) (p .deck)))
 
   pub drawn-left : drawn p c .left ≤ 24
-  unfolding drawn withDeck
+  unfolding drawn
   drawn-left = omega arith
 
   pub drawn-offset : drawn p c .offset ≤ drawn p c .left
-  unfolding drawn withDeck
+  unfolding drawn
   drawn-offset = omega (arith, place-low)
 
   pub drawn-right : deckRight p ≡ true → deckRight (drawn p c) ≡ true
-  unfolding deckRight drawn withDeck deckList
+  unfolding deckRight drawn deckList
   drawn-right r =
       let stock : List ℕ = take 24 (drop 28 (p .deal)) in
       ap (λ (xs : List ℕ). inOrder xs stock) drawn-list

@@ -10,7 +10,8 @@ use Rattle.rules.specs.Bits.{num}
 use Rattle.rules.specs.Places.{pileCard, cardAt, count, isHead, isBuried, isVisible, inDeck, onFoundation, pileOf}
 use Rattle.rules.specs.Dealing.{available}
 use Rattle.rules.specs.Legal.{isNext, isTop}
-use Rattle.rules.specs.Play.{withVisible, withHeights, withDeck, raised, lowered, shown, hidden, drawn, turned}
+use Rattle.rules.specs.Play.{withDeck, raised, lowered, shown, hidden, drawn, turned}
+use Rattle.rules.specs.Fields.{withDeal, withCounts, withVisible, withHeights}
 use Rattle.rules.specs.Proper.{Shaped}
 use Rattle.rules.proofs.Facts.{Facts, sets}
 use Rattle.rules.proofs.Placed.{HeadOf, head-of}
@@ -39,7 +40,7 @@ module _ (p : Position) (s : Shaped p) (f : Facts p) (c : ℕ) (lc : c < 52) whe
 
   pub deckStack-does : available p c ≡ true → isNext p c ≡ true
       → Tests (drawn (raised p c) c) (λ x. onFoundation p x || eqb x c) (λ x. inDeck p x && not (eqb x c)) (isBuried p) (isVisible p) (isHead p)
-  unfolding drawn raised withDeck withHeights deckList
+  unfolding drawn raised deckList
   deckStack-does a n =
       record {
         found = λ x l. found-same (raised p c) (drawn (raised p c) c) refl x ∙ raised-has p c lc (s .heights) n x l;
@@ -51,7 +52,7 @@ module _ (p : Position) (s : Shaped p) (f : Facts p) (c : ℕ) (lc : c < 52) whe
 
   pub deckPile-does : available p c ≡ true
       → Tests (drawn (shown p c) c) (onFoundation p) (λ x. inDeck p x && not (eqb x c)) (isBuried p) (λ x. isVisible p x || eqb x c) (isHead p)
-  unfolding drawn shown withDeck withVisible deckList
+  unfolding drawn shown deckList
   deckPile-does a =
       record {
         found = λ x l. found-same p (drawn (shown p c) c) refl x;
@@ -63,7 +64,7 @@ module _ (p : Position) (s : Shaped p) (f : Facts p) (c : ℕ) (lc : c < 52) whe
 
   pub stackPile-does : isTop p c ≡ true
       → Tests (shown (lowered p c) c) (λ x. onFoundation p x && not (eqb x c)) (inDeck p) (isBuried p) (λ x. isVisible p x || eqb x c) (isHead p)
-  unfolding shown lowered withHeights withVisible
+  unfolding shown lowered
   stackPile-does n =
       record {
         found = λ x l. found-same (lowered p c) (shown (lowered p c) c) refl x ∙ lowered-has p c lc (s .heights) n x l;
@@ -75,7 +76,7 @@ module _ (p : Position) (s : Shaped p) (f : Facts p) (c : ℕ) (lc : c < 52) whe
 
   pub pileStack-does : isNext p c ≡ true
       → Tests (hidden (raised p c) c) (λ x. onFoundation p x || eqb x c) (inDeck p) (isBuried p) (λ x. isVisible p x && not (eqb x c)) (isHead p)
-  unfolding hidden raised withHeights withVisible
+  unfolding hidden raised
   pileStack-does n =
       record {
         found = λ x l. found-same (raised p c) (hidden (raised p c) c) refl x ∙ raised-has p c lc (s .heights) n x l;
@@ -98,7 +99,7 @@ module _ (p : Position) (s : Shaped p) (f : Facts p) (c : ℕ) (lc : c < 52) whe
 
     under-same : (x : ℕ) → isUnder r (pileOf p c) x ≡ isUnder p (pileOf p c) x
     unfolding isUnder
-    under-same x = λ j. isUnder (record { deal = d j; step = p .step; counts = n j; heights = p .heights; deck = p .deck; left = p .left; offset = p .offset; visible = p .visible }) (pileOf p c) x
+    under-same x = λ j. isUnder (withCounts (withDeal p (d j)) (n j)) (pileOf p c) x
 
     pub turned-does : {F D S : ℕ → Bool} → Tests r F D (isBuried p) S (isHead p)
         → Tests (turned r (pileOf p c)) F D (λ x. isBuried p x && not (isUnder p (pileOf p c) x)) (λ x. S x || isUnder p (pileOf p c) x)

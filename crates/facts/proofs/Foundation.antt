@@ -13,7 +13,8 @@ use Rattle.rules.specs.Cards.{rank, suit, cardOf}
 use Rattle.rules.specs.Places.{height, onFoundation}
 use Rattle.rules.specs.Foundations.{raisedOn, loweredOn, stackedOn}
 use Rattle.rules.specs.Legal.{nextOn, isNext, isTop}
-use Rattle.rules.specs.Play.{raised, lowered, withHeights}
+use Rattle.rules.specs.Play.{raised, lowered}
+use Rattle.rules.specs.Fields.{withHeights}
 use Rattle.bits.proofs.Searches.{all-yes}
 use Rattle.rules.proofs.CardsLaw.{named}
 use Rattle.rules.proofs.Open.{rules}
@@ -46,11 +47,11 @@ unfoldable pub put : Position → ℕ → ℕ → Position
 put p c h = withHeights p (set (p .heights) (suit c) h)
 
 put-same : (p : Position) (c h s : ℕ) → c < 52 → length (p .heights) ≡ 4 → s ≡ suit c → height (put p c h) s ≡ h
-unfolding put withHeights
+unfolding put
 put-same p c h s l e q = let g : suit c < length (p .heights) = omega (arith, suit-low c l) in ap (λ (z : ℕ). getD (set (p .heights) (suit c) h) z 0) q ∙ getD-set-same (p .heights) (suit c) h 0 g
 
 put-other : (p : Position) (c h s : ℕ) → (s ≡ suit c → ⊥) → height (put p c h) s ≡ height p s
-unfolding put withHeights
+unfolding put
 put-other p c h s n = getD-set-other (p .heights) (suit c) s h 0 n
 
 -- heights keep a bound that the new one has

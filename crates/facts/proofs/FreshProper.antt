@@ -14,7 +14,8 @@ use Rattle.rules.specs.Bits.{num, anyOf, countOf}
 use Rattle.rules.specs.Cards.{rank, suit}
 use Rattle.rules.specs.Places.{cardAt, pileCard, stockCard, deckCard, count, height, hasHead, head, isHead, isBuried, isVisible, inDeck, onFoundation, freeIn}
 use Rattle.rules.specs.Proper.{areCards, areDifferent, dealRight, inOrder, deckRight, proper, Shaped}
-use Rattle.rules.specs.Play.{slots, withVisible}
+use Rattle.rules.specs.Play.{slots}
+use Rattle.rules.specs.Fields.{withVisible}
 use Rattle.rules.specs.Code.{table, freshParts, fresh}
 use Rattle.rules.specs.Answers.{dealRefusal, dealAnswer}
 use Rattle.bits.proofs.Searches.{and-both, any-yes, yes-any, is-false}
@@ -50,27 +51,27 @@ module _ (d : List ℕ) (step : ℕ) (ok : dealRefusal d step ≡ 0) where
   stock-long = length-take 24 (drop 28 d) ∙ omega (arith, length-drop 28 d, right .long)
 
   pub fresh-shape : Shaped p
-  unfolding fresh freshParts withVisible table
+  unfolding fresh freshParts table
   fresh-shape = record { deal = right .long; counts = refl; heights = refl; deck = slots-length (take 24 (drop 28 d)) }
 
   whole : (i : ℕ) → i < 7 → count p i ≡ i + 1
-  unfolding fresh freshParts withVisible
+  unfolding fresh freshParts
   whole i l = getD-table 7 (λ j. j + 1) i l
 
   fits : Fits p
   fits i l = omega (arith, whole i l)
 
   none-up : (s : ℕ) → s < 4 → height p s ≡ 0
-  unfolding fresh freshParts withVisible
+  unfolding fresh freshParts
   none-up s l = getD-table 4 (λ j. 0) s l
 
   deal : dealRight p ≡ true
-  unfolding dealRight fresh freshParts withVisible
+  unfolding dealRight fresh freshParts
   deal = and-both (areCards d) (areDifferent d) (right .cards) (right .different)
 
   -- each card: visible where it is a head
   seen : (x : ℕ) → x < 52 → isVisible p x ≡ isHead p x
-  unfolding isVisible headIn fresh freshParts withVisible
+  unfolding isVisible headIn fresh freshParts
   seen x l = bit-mask 52 (isHead (freshParts d step)) x l
 
   found : (x : ℕ) → x < 52 → onFoundation p x ≡ false
@@ -79,17 +80,17 @@ module _ (d : List ℕ) (step : ℕ) (ok : dealRefusal d step ≡ 0) where
 
   -- the deck holds the 24
   deck-at : (k : ℕ) → k < 24 → deckCard p k ≡ stockCard p k
-  unfolding fresh freshParts withVisible stock
+  unfolding fresh freshParts stock
   deck-at k l =
       sym (getD-take 24 (slots (take 24 (drop 28 d))) k 0 l) ∙ ap (λ (xs : List ℕ). getD xs k 0) (slots-front (take 24 (drop 28 d)) 24 stock-long (omega arith))
       ∙ getD-take 24 (drop 28 d) k 0 l ∙ getD-drop 28 d k 0
 
   deck-has : (m : ℕ) → m < 24 → inDeck p (stockCard p m) ≡ true
-  unfolding inDeck fresh freshParts withVisible
+  unfolding inDeck fresh freshParts
   deck-has m l = yes-any 24 (λ k. eqb (deckCard p k) (stockCard p m)) m l (eq-eqb (deckCard p m) (stockCard p m) (deck-at m l))
 
   deck-lacks : (i k : ℕ) → i < 7 → k ≤ i → inDeck p (pileCard p i k) ≡ false
-  unfolding inDeck fresh freshParts withVisible
+  unfolding inDeck fresh freshParts
   deck-lacks i k hi hk = is-false (anyOf 24 (λ j. eqb (deckCard p j) (pileCard p i k))) clash
     where
       clash : anyOf 24 (λ j. eqb (deckCard p j) (pileCard p i k)) ≡ true → ⊥
@@ -137,11 +138,11 @@ module _ (d : List ℕ) (step : ℕ) (ok : dealRefusal d step ≡ 0) where
       at x h = ap (λ (b : Bool). b && not (isHead p x)) (seen x h) ∙ both (isHead p x)
 
   seven-heads : headCount p ≡ 7
-  unfolding headCount countOf fresh freshParts withVisible table
+  unfolding headCount countOf fresh freshParts table
   seven-heads = refl
 
   is-right : proper p ≡ true
-  unfolding deckRight fresh freshParts withVisible stock
+  unfolding deckRight fresh freshParts stock
   is-right =
       is-proper p deal
       (record { step = right .fair; counts = fits; heights = λ s l. omega (arith, none-up s l); left = omega arith; offset = zero-le; visible = mask-lt 52 (isHead (freshParts d step)) })

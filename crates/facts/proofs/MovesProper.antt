@@ -12,7 +12,8 @@ use Rattle.rules.specs.Places.{count, isHead, isBuried, isVisible, inDeck, onFo
 use Rattle.rules.specs.Proper.{dealRight, deckRight, proper, Shaped}
 use Rattle.rules.specs.Dealing.{available}
 use Rattle.rules.specs.Legal.{isOpen, hasRoom, isNext, isTop, pileStackLegal, deckStackLegal, deckPileLegal, stackPileLegal, revealLegal, legal}
-use Rattle.rules.specs.Play.{withVisible, withHeights, withDeck, raised, lowered, shown, hidden, drawn, turned, after}
+use Rattle.rules.specs.Play.{withDeck, raised, lowered, shown, hidden, drawn, turned, after}
+use Rattle.rules.specs.Fields.{withVisible, withHeights}
 use Rattle.rules.specs.History.{isKindAndCard}
 use Rattle.rules.specs.Demands.{MovesKeepProper}
 use Rattle.bits.proofs.Searches.{and-left, and-right}
@@ -78,7 +79,7 @@ module _ (p : Position) (s : Shaped p) (f : Facts p) (c : ℕ) (lc : c < 52) whe
       (room-means p f c r))
 
   pub deckStack-proper : available p c ≡ true → isNext p c ≡ true → proper (drawn (raised p c) c) ≡ true
-  unfolding drawn raised withDeck withHeights seenNoHead
+  unfolding drawn raised seenNoHead
   deckStack-proper a e =
       made q (deal-same p q refl ∙ f .deal) (drawn-numbers r c lc (raised-numbers p c lc n (s .heights) e) (s .deck) has)
       (drawn-right r c (s .deck) (n .left) has (order-same p r refl refl refl ∙ f .order)) t
@@ -99,7 +100,7 @@ module _ (p : Position) (s : Shaped p) (f : Facts p) (c : ℕ) (lc : c < 52) whe
       has = deck-same p r refl refl c ∙ available-in p c a
 
   pub deckPile-proper : available p c ≡ true → hasRoom p c ≡ true → proper (drawn (shown p c) c) ≡ true
-  unfolding drawn shown withDeck withVisible
+  unfolding drawn shown
   deckPile-proper a m =
       let q : Position = drawn (shown p c) c in
       let has : inDeck (shown p c) c ≡ true = deck-same p (shown p c) refl refl c ∙ available-in p c a in
@@ -109,7 +110,7 @@ module _ (p : Position) (s : Shaped p) (f : Facts p) (c : ℕ) (lc : c < 52) whe
       refl m
 
   pub stackPile-proper : isTop p c ≡ true → hasRoom p c ≡ true → proper (shown (lowered p c) c) ≡ true
-  unfolding shown lowered withHeights withVisible
+  unfolding shown lowered
   stackPile-proper e m =
       let q : Position = shown (lowered p c) c in
       put-made q (deal-same p q refl ∙ f .deal) (shown-numbers (lowered p c) c lc (lowered-numbers p c lc n (s .heights) e)) (order-same p q refl refl refl ∙ f .order) (stackPile-does p s f c lc e)
@@ -128,7 +129,7 @@ module _ (p : Position) (s : Shaped p) (f : Facts p) (c : ℕ) (lc : c < 52) whe
     up-once x l = goes (isVisible p x) (onFoundation p x) (eqb x c) (B x + D x) (omega (arith, once x l)) (at-card (isVisible p) c v x)
 
     pub pileStack-proper : isHead p c ≡ false → proper up ≡ true
-    unfolding hidden raised withHeights withVisible seenNoHead pair
+    unfolding hidden raised seenNoHead pair
     pileStack-proper h =
         made up (deal-same p up refl ∙ f .deal) up-numbers (order-same p up refl refl refl ∙ f .order) t (λ x l. omega (arith, up-once x l))
         (λ x l. up-less (isHead p x) (isVisible p x) (eqb x c) (f .up x) (λ y. ap (isHead p) (eqb-true x c y) ∙ h))
@@ -140,7 +141,7 @@ module _ (p : Position) (s : Shaped p) (f : Facts p) (c : ℕ) (lc : c < 52) whe
         t = pileStack-does p s f c lc e
 
     pub pileStackHead-proper : isHead p c ≡ true → proper (turned up (pileOf p c)) ≡ true
-    unfolding hidden raised withHeights withVisible seenNoHead pair
+    unfolding hidden raised seenNoHead pair
     pileStackHead-proper h =
         made q (deal-same up q (turned-stays up i .deal) ∙ deal-same p up refl ∙ f .deal) (turned-numbers up i up-numbers (deal-same p up refl ∙ f .deal) (s .counts) (k .isPile) (k .some))
         (order-same up q (turned-stays up i .deal) (turned-stays up i .deck) (turned-stays up i .left) ∙ order-same p up refl refl refl ∙ f .order) t

@@ -11,7 +11,8 @@ use Rattle.rules.specs.Places.{count, height, inDeck}
 use Rattle.rules.specs.Foundations.{raisedOn, loweredOn}
 use Rattle.rules.specs.Proper.{dealRight, stepRight}
 use Rattle.rules.specs.Legal.{nextOn, isNext, isTop}
-use Rattle.rules.specs.Play.{withVisible, withHeights, withDeck, raised, lowered, shown, hidden, drawn, turned}
+use Rattle.rules.specs.Play.{withDeck, raised, lowered, shown, hidden, drawn, turned}
+use Rattle.rules.specs.Fields.{withVisible, withHeights}
 use Rattle.rules.proofs.ProperMade.{Numbers}
 use Rattle.facts.proofs.Foundation.{put, put-fits, rank-low}
 use Rattle.facts.proofs.Shows.{shown-low, hidden-low}
@@ -22,7 +23,7 @@ use Rattle.facts.proofs.Untouched.{height-same}
 
 module _ (p : Position) (c : ℕ) (lc : c < 52) (n : Numbers p) where
   put-numbers : length (p .heights) ≡ 4 → (h : ℕ) → h ≤ 13 → Numbers (put p c h)
-  unfolding put withHeights
+  unfolding put
   put-numbers e h l = record { step = n .step; counts = n .counts; heights = put-fits p c h lc e l (n .heights); left = n .left; offset = n .offset; visible = n .visible }
 
   pub raised-numbers : length (p .heights) ≡ 4 → isNext p c ≡ true → Numbers (raised p c)
@@ -34,15 +35,15 @@ module _ (p : Position) (c : ℕ) (lc : c < 52) (n : Numbers p) where
   lowered-numbers e t = put-numbers e (height p (suit c) - 1) (omega (arith, rank-low c lc, eqb-true (rank c + 1) (height p (suit c)) t))
 
   pub shown-numbers : Numbers (shown p c)
-  unfolding shown withVisible
+  unfolding shown
   shown-numbers = record { step = n .step; counts = n .counts; heights = n .heights; left = n .left; offset = n .offset; visible = shown-low p c (n .visible) lc }
 
   pub hidden-numbers : Numbers (hidden p c)
-  unfolding hidden withVisible
+  unfolding hidden
   hidden-numbers = record { step = n .step; counts = n .counts; heights = n .heights; left = n .left; offset = n .offset; visible = hidden-low p c (n .visible) }
 
   pub drawn-numbers : length (p .deck) ≡ 24 → inDeck p c ≡ true → Numbers (drawn p c)
-  unfolding drawn withDeck
+  unfolding drawn
   drawn-numbers e h =
       record { step = n .step; counts = n .counts; heights = n .heights; left = drawn-left p c e (n .left) h; offset = drawn-offset p c e (n .left) h; visible = n .visible }
 

@@ -9,7 +9,8 @@ use Rattle.rules.specs.declared.Position.{Position}
 use Rattle.rules.specs.Cards.{suit}
 use Rattle.rules.specs.Places.{count, height, isHead, pileOf}
 use Rattle.rules.specs.Foundations.{raisedOn, loweredOn}
-use Rattle.rules.specs.Play.{withVisible, withHeights, withDeck, raised, lowered, shown, hidden, deckPlace, drawn, putBack, turned, turnedBack, after, before}
+use Rattle.rules.specs.Play.{withDeck, raised, lowered, shown, hidden, deckPlace, drawn, putBack, turned, turnedBack, after, before}
+use Rattle.rules.specs.Fields.{withVisible, withHeights}
 use Rattle.rules.specs.Proper.{Shaped}
 use Rattle.facts.proofs.Deck.{slots-length}
 use Rattle.facts.proofs.TurnedFields.{Stays, turned-stays}
@@ -17,27 +18,27 @@ use Rattle.facts.proofs.TurnedBack.{back-stays}
 
 module _ (p : Position) (c : ℕ) (s : Shaped p) where
   raised-shape : Shaped (raised p c)
-  unfolding raised withHeights raisedOn
+  unfolding raised raisedOn
   raised-shape = record { deal = s .deal; counts = s .counts; heights = length-set (p .heights) (suit c) (height p (suit c) + 1) ∙ s .heights; deck = s .deck }
 
   lowered-shape : Shaped (lowered p c)
-  unfolding lowered withHeights loweredOn
+  unfolding lowered loweredOn
   lowered-shape = record { deal = s .deal; counts = s .counts; heights = length-set (p .heights) (suit c) (height p (suit c) - 1) ∙ s .heights; deck = s .deck }
 
   shown-shape : Shaped (shown p c)
-  unfolding shown withVisible
+  unfolding shown
   shown-shape = record { deal = s .deal; counts = s .counts; heights = s .heights; deck = s .deck }
 
   hidden-shape : Shaped (hidden p c)
-  unfolding hidden withVisible
+  unfolding hidden
   hidden-shape = record { deal = s .deal; counts = s .counts; heights = s .heights; deck = s .deck }
 
   drawn-shape : Shaped (drawn p c)
-  unfolding drawn withDeck
+  unfolding drawn
   drawn-shape = record { deal = s .deal; counts = s .counts; heights = s .heights; deck = slots-length (take (deckPlace p c) (p .deck) ++ drop (deckPlace p c + 1) (take (p .left) (p .deck))) }
 
   put-shape : (o : ℕ) → Shaped (putBack p c o)
-  unfolding putBack withDeck
+  unfolding putBack
   put-shape o = record { deal = s .deal; counts = s .counts; heights = s .heights; deck = slots-length (take (p .offset) (p .deck) ++ (c ∷ drop (p .offset) (take (p .left) (p .deck)))) }
 
   stays-shape : (q : Position) (i n : ℕ) → Stays p q (set (p .counts) i n) → Shaped q

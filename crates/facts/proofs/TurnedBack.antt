@@ -11,7 +11,8 @@ use borrow.Author.Tests.{lt-ltb, le-ltb, ltb-true, ltb-false}
 use Rattle.rules.specs.declared.Position.{Position}
 use Rattle.rules.specs.Bits.{without}
 use Rattle.rules.specs.Places.{pileStart, pileCard, cardAt, count, isVisible}
-use Rattle.rules.specs.Play.{hidden, withCounts, turnedBack}
+use Rattle.rules.specs.Play.{hidden, turnedBack}
+use Rattle.rules.specs.Fields.{withCounts}
 use Rattle.facts.proofs.Shows.{hidden-has, hidden-low}
 use Rattle.facts.proofs.Turned.{Fewer, isUnder}
 use Rattle.facts.proofs.TurnedFields.{Stays, recounted}
@@ -26,7 +27,7 @@ unfoldable pub headAt : Position → ℕ → ℕ → Bool
 headAt p i x = ltb 0 (count p i) && eqb x (pileCard p i (count p i - 1))
 
 pub back-has : (p : Position) (i x : ℕ) → x < 52 → isVisible (turnedBack p i) x ≡ (isVisible p x && not (headAt p i x))
-unfolding turnedBack headAt isVisible withCounts
+unfolding turnedBack headAt isVisible
 back-has p i x l = go (ltb 0 (count p i))
   where
     m : Position
@@ -37,7 +38,7 @@ back-has p i x l = go (ltb 0 (count p i))
     go false = sym (and-true (isVisible p x))
 
 pub back-low : (p : Position) (i : ℕ) → p .visible < 2 ^ 52 → turnedBack p i .visible < 2 ^ 52
-unfolding turnedBack withCounts
+unfolding turnedBack
 back-low p i v = go (ltb 0 (count p i))
   where
     m : Position

@@ -11,7 +11,8 @@ use Rattle.rules.specs.declared.Position.{Position}
 use Rattle.rules.specs.Bits.{with}
 use Rattle.rules.specs.Places.{pileCard, count, isVisible, isBuried}
 use Rattle.rules.specs.Proper.{dealRight}
-use Rattle.rules.specs.Play.{shown, withVisible, withCounts, turned}
+use Rattle.rules.specs.Play.{shown, turned}
+use Rattle.rules.specs.Fields.{withVisible, withCounts}
 use Rattle.bits.proofs.Searches.{and-left, and-right}
 use borrow.Author.Tests.{eqb-true, lt-ltb, ltb-true}
 use Rattle.rules.proofs.Placed.{pile-card-low, buried-at}
@@ -30,7 +31,6 @@ pub record Stays (p q : Position) (n : List ℕ) : Type 0 where
 
 -- other counts, and perhaps another mask
 pub recounted : (p : Position) (n : List ℕ) (v : ℕ) (b : Bool) → Stays p (cond b (withVisible (withCounts p n) v) (withCounts p n)) n
-unfolding withVisible withCounts
 recounted p n v true = record { deal = refl; step = refl; counts = refl; heights = refl; deck = refl; left = refl; offset = refl }
 recounted p n v false = record { deal = refl; step = refl; counts = refl; heights = refl; deck = refl; left = refl; offset = refl }
 
@@ -49,7 +49,7 @@ turned-fewer p i l e =
 
 -- the card under the head shows
 pub turned-has : (p : Position) (i x : ℕ) → x < 52 → isVisible (turned p i) x ≡ (isVisible p x || isUnder p i x)
-unfolding turned isUnder isVisible withCounts
+unfolding turned isUnder isVisible
 turned-has p i x l = go (ltb 1 (count p i))
   where
     m : Position
@@ -60,7 +60,7 @@ turned-has p i x l = go (ltb 1 (count p i))
     go false = sym (or-false (isVisible p x))
 
 pub turned-low : (p : Position) (i : ℕ) → dealRight p ≡ true → Fits p → i < 7 → p .visible < 2 ^ 52 → turned p i .visible < 2 ^ 52
-unfolding turned withCounts
+unfolding turned
 turned-low p i d n l v = go (ltb 1 (count p i))
   where
     m : Position

@@ -6,37 +6,18 @@ use mathlib.Core.List.{[]}
 use Prim.Native.Nat.{ℕ, _<_}
 use Rattle.rules.specs.declared.Position.{Position}
 use Rattle.rules.specs.Bits.{table}
+use Rattle.rules.specs.Fields.{withDeal}
 use Rattle.rules.specs.Places.{cardAt, count, placeBuried}
 use Rattle.rules.proofs.PileField.{table-ext}
 use Rattle.rules.specs.Hidden.{buriedAt}
 
 -- what a player may know of a position: the deal with the cards at buried places wiped, and all the rest
 unfoldable pub veil : Position → Position
-veil p =
-    record {
-      deal = table 52 (λ k. cond (placeBuried p k) 255 (cardAt p k));
-      step = p .step;
-      counts = p .counts;
-      heights = p .heights;
-      deck = p .deck;
-      left = p .left;
-      offset = p .offset;
-      visible = p .visible;
-    }
+veil p = withDeal p (table 52 (λ k. cond (placeBuried p k) 255 (cardAt p k)))
 
 -- the position without its deal
 unfoldable pub bare : Position → Position
-bare p =
-    record {
-      deal = [];
-      step = p .step;
-      counts = p .counts;
-      heights = p .heights;
-      deck = p .deck;
-      left = p .left;
-      offset = p .offset;
-      visible = p .visible;
-    }
+bare p = withDeal p []
 
 pub veil-bare : (p q : Position) → veil p ≡ veil q → bare p ≡ bare q
 unfolding veil bare
@@ -51,8 +32,7 @@ cond-same f false false x y u v e h k = k refl
 
 -- whether a place is buried is a matter of the counts
 pub buried-counts : (p q : Position) → p .counts ≡ q .counts → (k : ℕ) → placeBuried p k ≡ placeBuried q k
-unfolding buriedAt bare
-buried-counts p q e k = λ i. placeBuried (record { deal = []; step = 0; counts = e i; heights = []; deck = []; left = 0; offset = 0; visible = 0 }) k
+buried-counts p q e k = λ i. buriedAt (e i) k
 
 -- the deals of p and q agree at each place that is not buried in r
 abbrev pub Agree : Position → Position → Position → Type 0
@@ -61,17 +41,7 @@ Agree r p q = (k : ℕ) → k < 52 → placeBuried r k ≡ false → cardAt p k 
 pub veil-made : (p q : Position) → bare p ≡ bare q → Agree p p q → veil p ≡ veil q
 unfolding veil bare
 veil-made p q e h =
-    λ i.
-    record {
-      deal = table-ext 52 (λ k. cond (placeBuried p k) 255 (cardAt p k)) (λ k. cond (placeBuried q k) 255 (cardAt q k)) one i;
-      step = e i .step;
-      counts = e i .counts;
-      heights = e i .heights;
-      deck = e i .deck;
-      left = e i .left;
-      offset = e i .offset;
-      visible = e i .visible;
-    }
+    λ i. withDeal (e i) (table-ext 52 (λ k. cond (placeBuried p k) 255 (cardAt p k)) (λ k. cond (placeBuried q k) 255 (cardAt q k)) one i)
   where
     one : (k : ℕ) → k < 52 → cond (placeBuried p k) 255 (cardAt p k) ≡ cond (placeBuried q k) 255 (cardAt q k)
     one k l =

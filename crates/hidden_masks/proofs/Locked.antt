@@ -8,6 +8,7 @@ use Rattle.rules.specs.declared.Position.{Position}
 use Rattle.rules.specs.Places.{isHead, isBuried}
 use Rattle.rules.specs.Hidden.{headIn, buriedIn, lockedIn}
 use Rattle.rules.proofs.ProperLaw.{locked-is}
+use Rattle.rules.specs.Fields.{blank, withDeal, withCounts}
 
 -- a locked card is buried or a head
 pub locked-both : (d n : List ℕ) (c : ℕ) → (buriedIn d n c || headIn d n c) ≡ lockedIn d n c
@@ -16,4 +17,4 @@ locked-both d n c =
   where
     -- any position of this deal with these counts
     p : Position
-    p = record { deal = d; step = 0; counts = n; heights = []; deck = []; left = 0; offset = 0; visible = 0 }
+    p = withCounts (withDeal blank d) n

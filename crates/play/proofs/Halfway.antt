@@ -11,7 +11,8 @@ use Rattle.rules.specs.declared.TurnedUp.the-variants.{Nothing}
 use Rattle.rules.specs.Hidden.{headPile, barePile}
 use Rattle.rules.specs.Legal.{legal}
 use Rattle.rules.specs.Proper.{proper}
-use Rattle.rules.specs.Play.{raised, lowered, shown, hidden, drawn, putBack, turnedBack, withVisible, withHeights, withDeck, before}
+use Rattle.rules.specs.Play.{raised, lowered, shown, hidden, drawn, putBack, turnedBack, withDeck, before}
+use Rattle.rules.specs.Fields.{withVisible, withHeights}
 use Rattle.play.specs.declared.Made.{Made}
 use Rattle.play.specs.Made.{made, turnedAt, hasWay}
 use Rattle.play.proofs.Known.{head-at, no-head, is-head, reveal-head, bare-at, pile-stack-way, reveal-way}
@@ -36,22 +37,22 @@ module _ (p : Position) (c : ℕ) (kind : ℕ) where
   at-kind k e m h = h ∙ sym (ap (λ (x : ℕ). made p x c) e)
 
   pub from-deck-up : (q : Position) (byte pile : ℕ) → kind ≡ 0 → q ≡ raised (drawn p c) c → byte ≡ p .offset → pile ≡ 7 → Making q byte pile
-  unfolding raised drawn withDeck withHeights
+  unfolding raised drawn
   from-deck-up q byte pile k e b l =
       rw (e, b, l) (record { deal = refl; counts = refl; some = λ s. absurd (omega arith); none = λ s. at-kind 0 k _ (made-deck-stack p c) })
 
   pub from-deck : (q : Position) (byte pile : ℕ) → kind ≡ 2 → q ≡ shown (drawn p c) c → byte ≡ p .offset → pile ≡ 7 → Making q byte pile
-  unfolding shown drawn withDeck withVisible
+  unfolding shown drawn
   from-deck q byte pile k e b l =
       rw (e, b, l) (record { deal = refl; counts = refl; some = λ s. absurd (omega arith); none = λ s. at-kind 2 k _ (made-deck-pile p c) })
 
   pub from-stack : (q : Position) (byte pile : ℕ) → kind ≡ 3 → q ≡ shown (lowered p c) c → byte ≡ 0 → pile ≡ 7 → Making q byte pile
-  unfolding shown lowered withHeights withVisible
+  unfolding shown lowered
   from-stack q byte pile k e b l =
       rw (e, b, l) (record { deal = refl; counts = refl; some = λ s. absurd (omega arith); none = λ s. at-kind 3 k _ (made-stack-pile p c) })
 
   pub from-pile-up : (q : Position) (byte pile : ℕ) → T (proper p) → kind ≡ 1 → q ≡ hidden (raised p c) c → byte ≡ boolByte (ltb pile 7) → pile ≡ headPile (p .deal) (p .counts) c → Making q byte pile
-  unfolding hidden raised withHeights withVisible
+  unfolding hidden raised
   from-pile-up q byte pile t k e b l =
       rw e
       (record {
@@ -84,27 +85,27 @@ module _ (p : Position) (byte c : ℕ) (kind : ℕ) where
   was-kind k e q h = h ∙ sym (ap (λ (x : ℕ). before p byte x c) e)
 
   pub to-deck-down : (q : Position) (pile : ℕ) → kind ≡ 0 → q ≡ putBack (lowered p c) c byte → pile ≡ 7 → Going q pile
-  unfolding before putBack lowered withDeck withHeights
+  unfolding before putBack lowered
   to-deck-down q pile k e l =
       rw (e, l) (record { deal = refl; counts = refl; some = λ s. absurd (omega arith); none = λ s. was-kind 0 k _ refl })
 
   pub to-deck : (q : Position) (pile : ℕ) → kind ≡ 2 → q ≡ putBack (hidden p c) c byte → pile ≡ 7 → Going q pile
-  unfolding before putBack hidden withDeck withVisible
+  unfolding before putBack hidden
   to-deck q pile k e l =
       rw (e, l) (record { deal = refl; counts = refl; some = λ s. absurd (omega arith); none = λ s. was-kind 2 k _ refl })
 
   pub to-stack : (q : Position) (pile : ℕ) → kind ≡ 3 → q ≡ raised (hidden p c) c → pile ≡ 7 → Going q pile
-  unfolding before raised hidden withHeights withVisible
+  unfolding before raised hidden
   to-stack q pile k e l =
       rw (e, l) (record { deal = refl; counts = refl; some = λ s. absurd (omega arith); none = λ s. was-kind 3 k _ refl })
 
   pub card-down : (q : Position) (pile : ℕ) → kind ≡ 1 → byte ≡ 0 → q ≡ shown (lowered p c) c → pile ≡ 7 → Going q pile
-  unfolding before shown lowered withHeights withVisible
+  unfolding before shown lowered
   card-down q pile k b e l =
       rw (e, l) (record { deal = refl; counts = refl; some = λ s. absurd (omega arith); none = λ s. was-kind 1 k _ (rw (eq-eqb byte 0 b) refl) })
 
   pub head-down : (q : Position) (pile : ℕ) → T (proper p) → T (hasWay p byte kind c) → kind ≡ 1 → (byte ≡ 0 → ⊥) → q ≡ shown (lowered p c) c → pile ≡ barePile (p .deal) (p .counts) c → Going q pile
-  unfolding before shown lowered withHeights withVisible
+  unfolding before shown lowered
   head-down q pile t w k b e l =
       let h = bare-at p t c (pile-stack-way p byte c (subst (λ (x : ℕ). T (hasWay p byte x c)) k w) b) in
       rw (e, l)

@@ -16,7 +16,8 @@ use Rattle.rules.specs.Hidden.{bareOf, barePile}
 use Rattle.rules.specs.Proper.{proper}
 use Rattle.rules.specs.Legal.{legal, revealLegal, hasRoom}
 use Rattle.rules.specs.History.{entryByte, entryKind, entryCard, isKindAndCard, samePosition, stepBack, undoable}
-use Rattle.rules.specs.Play.{lowered, shown, hidden, putBack, turnedBack, withDeck, withHeights, withVisible, before, after, undoByte}
+use Rattle.rules.specs.Play.{lowered, shown, hidden, putBack, turnedBack, withDeck, before, after, undoByte}
+use Rattle.rules.specs.Fields.{withHeights, withVisible}
 use Rattle.bits.proofs.Searches.{and-left, and-both, first-least, is-false}
 use Rattle.rules.proofs.Facts.{Facts, facts-of as facts}
 use Rattle.facts.proofs.DealKept.{pileOf-deal}
@@ -65,7 +66,7 @@ module _ (p r : Position) (c : ℕ) (d : r .deal ≡ p .deal) (n : r .counts ≡
 
 module _ (p : Position) (byte c : ℕ) (long : length (p .counts) ≡ 7) where
   room : (r : Position) → r .left ≡ p .left → proper (putBack r c byte) ≡ true → ltb (p .left) 24 ≡ true
-  unfolding putBack withDeck
+  unfolding putBack
   room r e h = lt-ltb (p .left) 24 (omega (arith, facts (putBack r c byte) h .numbers .left))
 
   was-head : (b : Bool) → eqb (num b) byte ≡ true → eqb byte 0 ≡ false → b ≡ true
@@ -73,7 +74,7 @@ module _ (p : Position) (byte c : ℕ) (long : length (p .counts) ≡ 7) where
   was-head false e z = absurd (eqb-false byte 0 z (sym (eqb-true 0 byte e)))
 
   pub has-way : (kind : ℕ) → proper (before p byte kind c) ≡ true → legal (before p byte kind c) kind c ≡ true → eqb (undoByte (before p byte kind c) kind c) byte ≡ true → hasWay p byte kind c ≡ true
-  unfolding hasWay before legal undoByte revealLegal lowered shown hidden withHeights withVisible
+  unfolding hasWay before legal undoByte revealLegal lowered shown hidden
   has-way zero h l u = room (lowered p c) refl h
   has-way (suc zero) h l u = go (eqb byte 0) refl h u
     where

@@ -15,7 +15,8 @@ use Rattle.rules.specs.declared.TurnedUp.the-variants.{Nothing, Emptied,
 use Rattle.rules.specs.Bits.{allOf, firstOf}
 use Rattle.rules.specs.Places.{cardAt, pileCard, count, hasHead, head, isHead, isBuried, isLocked, isBase, pileOf}
 use Rattle.rules.specs.Code.{countsField, pileField, fieldCount, codeCount, codePiles, table}
-use Rattle.rules.specs.Play.{withCounts, shown, hidden, turned, turnedBack, under}
+use Rattle.rules.specs.Play.{shown, hidden, turned, turnedBack, under}
+use Rattle.rules.specs.Fields.{withCounts}
 use Rattle.rules.specs.Hidden.{placed, headOf, bareOf, headIn, buriedIn, lockedIn, baseIn, headPile, barePile, oneLess, oneMore, underIn, coveredIn, allUp}
 use Rattle.bits.proofs.Searches.{and-left, and-right, and-both, any-yes, yes-any, first-yes}
 use Rattle.bits.proofs.Steps.{first-at, first-none}

@@ -11,7 +11,8 @@ use lib.ListN.{length, getD, take, drop, length-drop}
 use lib.Seq.{take-all, sets, sets-eq}
 use Rattle.rules.specs.declared.Position.{Position}
 use Rattle.rules.specs.declared.Started.{Started}
-use Rattle.rules.specs.Code.{code, fresh, blank}
+use Rattle.rules.specs.Code.{code, fresh}
+use Rattle.rules.specs.Fields.{blank}
 use Rattle.rules.specs.Legal.{unpruned}
 use Rattle.rules.specs.Proper.{stepRight, areCards, areDifferent, proper}
 use Rattle.rules.specs.Answers.{_refuses_else_, accepted, dealRefusal, dealAnswer, saveAnswer, masksAnswer, masksFor, improper}

@@ -8,7 +8,8 @@ use lib.ListN.{length, getD, set}
 use lib.Seq.{set-getD, set-set, getD-set-same}
 use Rattle.rules.specs.declared.Position.{Position}
 use Rattle.rules.specs.Foundations.{raisedOn, loweredOn, pushedOn}
-use Rattle.rules.specs.Play.{withHeights, raised, lowered}
+use Rattle.rules.specs.Play.{raised, lowered}
+use Rattle.rules.specs.Fields.{withHeights}
 use Rattle.rules.specs.Cards.{suit}
 
 -- ---- up and down

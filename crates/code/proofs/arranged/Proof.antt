@@ -12,7 +12,7 @@ use Rattle.bits.specs.Bit.{bit}
 use Rattle.bits.proofs.Laws.{mask-lt}
 use Rattle.rules.specs.Places.{isFree}
 use Rattle.rules.specs.Proper.{pairRule, sevenRule}
-use Rattle.rules.specs.Play.{withVisible}
+use Rattle.rules.specs.Fields.{withVisible}
 use Rattle.rules.specs.Answers.{overlaps}
 use Rattle.bits.proofs.Searches.{and-both, count-le}
 use Rattle.code.specs.Resuming.{worked, arrangeRefusal, arrangeAnswer}
@@ -86,7 +86,7 @@ returns-3 c =
     ∙ is-refused 9 (arrangeRefusal (worked p)) (worked p) (arrange-tests (worked p) false false (apart (k .before .before .before .before .before .before .before .before)) (ap (λ (b : Bool). pairRule (worked p) && b) broken ∙ and-false (pairRule (worked p)))) (λ e. omega arith)
 
 returns-4 : tie.Need-returns-4
-unfolding arrangeAnswer withVisible
+unfolding arrangeAnswer
 returns-4 c =
     let k = c .before in
     let p = k .before .before .before .before .before .before .before .before .before .before .before .before .before .before .args .p in

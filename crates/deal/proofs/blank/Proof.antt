@@ -1,12 +1,11 @@
 -- `deal::blank` meets its contract.
 -- Assumes nothing.
 use mathlib.Core.Path.{refl}
-use Rattle.rules.specs.Code.{blank}
+use Rattle.rules.specs.Fields.{blank}
 use Rattle.deal.proofs.blank.Statement.{statement}
 use Rattle.deal.proofs.blank.Tie as tie
 
 returns : tie.Need-returns
-unfolding blank
 returns c = refl
 
 pub blank-spec : {M : Type 1} → statement M
