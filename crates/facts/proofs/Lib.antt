@@ -21,6 +21,7 @@ pub mod Shapes
 pub mod Refusing
 pub mod Allowed
 -- going back, and refusal 15's test
+pub mod Tidy
 pub mod TurnedBack
 pub mod UndoTest
 pub mod EntryFits

@@ -1,30 +1,30 @@
 -- Every number stays in its range, for each change that a move is made of. Assumes nothing.
 use mathlib.Core.Bool.{true}
-use mathlib.Core.Path.{_≡_, sym, ap, _∙_, subst}
+use mathlib.Core.Path.{_≡_, sym, subst}
 use Prim.Native.Nat.{ℕ, _+_, _-_, _≤_, _<_}
 use native.Mathlib.Omega.{arith}
-use lib.ListN.{length}
+use lib.ListN.{length, set}
 use borrow.Author.Tests.{eqb-true}
 use Rattle.rules.specs.declared.Position.{Position}
 use Rattle.rules.specs.Cards.{rank, suit}
 use Rattle.rules.specs.Places.{count, height, inDeck}
 use Rattle.rules.specs.Foundations.{raisedOn, loweredOn}
-use Rattle.rules.specs.Proper.{dealRight, stepRight}
+use Rattle.rules.specs.Proper.{dealRight}
 use Rattle.rules.specs.Legal.{nextOn, isNext, isTop}
-use Rattle.rules.specs.Play.{withDeck, raised, lowered, shown, hidden, drawn, turned}
-use Rattle.rules.specs.Fields.{withVisible, withHeights}
-use Rattle.rules.proofs.ProperMade.{Numbers}
+use Rattle.rules.specs.Play.{raised, lowered, shown, hidden, drawn, turned}
+use Rattle.rules.specs.Fields.{withCounts, withVisible, withHeights}
+use Rattle.rules.proofs.ProperLaw.{Fits}
+use Rattle.rules.proofs.ProperMade.{Numbers, with-counts, with-heights, with-deck, with-visible}
 use Rattle.facts.proofs.Foundation.{put, put-fits, rank-low}
 use Rattle.facts.proofs.Shows.{shown-low, hidden-low}
 use Rattle.facts.proofs.Deck.{drawn-left, drawn-offset}
 use Rattle.facts.proofs.Turned.{fewer-fits}
 use Rattle.facts.proofs.TurnedFields.{turned-stays, turned-fewer, turned-low}
-use Rattle.facts.proofs.Untouched.{height-same}
 
 module _ (p : Position) (c : ℕ) (lc : c < 52) (n : Numbers p) where
   put-numbers : length (p .heights) ≡ 4 → (h : ℕ) → h ≤ 13 → Numbers (put p c h)
   unfolding put
-  put-numbers e h l = record { step = n .step; counts = n .counts; heights = put-fits p c h lc e l (n .heights); left = n .left; offset = n .offset; visible = n .visible }
+  put-numbers e h l = with-heights p n _ (put-fits p c h lc e l (n .heights))
 
   pub raised-numbers : length (p .heights) ≡ 4 → isNext p c ≡ true → Numbers (raised p c)
   unfolding raised put isNext nextOn raisedOn
@@ -36,25 +36,20 @@ module _ (p : Position) (c : ℕ) (lc : c < 52) (n : Numbers p) where
 
   pub shown-numbers : Numbers (shown p c)
   unfolding shown
-  shown-numbers = record { step = n .step; counts = n .counts; heights = n .heights; left = n .left; offset = n .offset; visible = shown-low p c (n .visible) lc }
+  shown-numbers = with-visible p n _ (shown-low p c (n .visible) lc)
 
   pub hidden-numbers : Numbers (hidden p c)
   unfolding hidden
-  hidden-numbers = record { step = n .step; counts = n .counts; heights = n .heights; left = n .left; offset = n .offset; visible = hidden-low p c (n .visible) }
+  hidden-numbers = with-visible p n _ (hidden-low p c (n .visible))
 
   pub drawn-numbers : length (p .deck) ≡ 24 → inDeck p c ≡ true → Numbers (drawn p c)
   unfolding drawn
-  drawn-numbers e h =
-      record { step = n .step; counts = n .counts; heights = n .heights; left = drawn-left p c e (n .left) h; offset = drawn-offset p c e (n .left) h; visible = n .visible }
+  drawn-numbers e h = with-deck p n _ _ _ (drawn-left p c e (n .left) h) (drawn-offset p c e (n .left) h)
 
 pub turned-numbers : (p : Position) (i : ℕ) → Numbers p → dealRight p ≡ true → length (p .counts) ≡ 7 → i < 7 → 0 < count p i → Numbers (turned p i)
 turned-numbers p i n d e l h =
-    let t = turned-stays p i in
-    record {
-      step = ap stepRight (t .step) ∙ n .step;
-      counts = fewer-fits p (turned p i) i d (n .counts) l h (turned-fewer p i l e);
-      heights = λ s ls. subst (λ (m : ℕ). m ≤ 13) (sym (height-same p (turned p i) (t .heights) s)) (n .heights s ls);
-      left = omega (arith, t .left, n .left);
-      offset = omega (arith, t .left, t .offset, n .offset);
-      visible = turned-low p i d (n .counts) l (n .visible);
-    }
+    subst Numbers (sym (turned-stays p i .whole))
+    (with-visible (withCounts p (set (p .counts) i (count p i - 1))) (with-counts p n (set (p .counts) i (count p i - 1)) fewer) (turned p i .visible) (turned-low p i d (n .counts) l (n .visible)))
+  where
+    fewer : Fits (withCounts p (set (p .counts) i (count p i - 1)))
+    fewer = subst Fits (turned-stays p i .whole) (fewer-fits p (turned p i) i d (n .counts) l h (turned-fewer p i l e))

@@ -21,6 +21,7 @@ use Rattle.facts.proofs.Turned.{Fits, Fewer, isUnder}
 
 -- q is p but for its mask and its counts, which are n
 pub record Stays (p q : Position) (n : List ℕ) : Type 0 where
+  pub whole : q ≡ withVisible (withCounts p n) (q .visible)
   pub deal : q .deal ≡ p .deal
   pub step : q .step ≡ p .step
   pub counts : q .counts ≡ n
@@ -31,8 +32,8 @@ pub record Stays (p q : Position) (n : List ℕ) : Type 0 where
 
 -- other counts, and perhaps another mask
 pub recounted : (p : Position) (n : List ℕ) (v : ℕ) (b : Bool) → Stays p (cond b (withVisible (withCounts p n) v) (withCounts p n)) n
-recounted p n v true = record { deal = refl; step = refl; counts = refl; heights = refl; deck = refl; left = refl; offset = refl }
-recounted p n v false = record { deal = refl; step = refl; counts = refl; heights = refl; deck = refl; left = refl; offset = refl }
+recounted p n v true = record { whole = refl; deal = refl; step = refl; counts = refl; heights = refl; deck = refl; left = refl; offset = refl }
+recounted p n v false = record { whole = refl; deal = refl; step = refl; counts = refl; heights = refl; deck = refl; left = refl; offset = refl }
 
 pub turned-stays : (p : Position) (i : ℕ) → Stays p (turned p i) (set (p .counts) i (count p i - 1))
 unfolding turned shown

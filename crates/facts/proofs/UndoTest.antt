@@ -10,7 +10,7 @@ use Rattle.rules.specs.Bits.{sameList}
 use Rattle.rules.specs.Proper.{proper}
 use Rattle.rules.specs.Legal.{legal}
 use Rattle.rules.specs.Play.{after, undoByte}
-use Rattle.rules.specs.History.{isKindAndCard, samePosition, entryByte, entryKind, entryCard, stepBack, undoable}
+use Rattle.rules.specs.History.{isKindAndCard, sameDeck, sameInDeal, samePosition, entryByte, entryKind, entryCard, stepBack, undoable}
 use Rattle.bits.proofs.Searches.{and-left, and-right, and-both}
 use Rattle.rules.proofs.SameList.{same-list, list-same}
 use Rattle.facts.proofs.Veil.{bare}
@@ -44,28 +44,10 @@ pub passed : (p : Position) (x : ℕ) → Passes p x (stepBack p x) → undoable
 unfolding undoable
 passed p x h = and-both _ _ (and-both _ _ (and-both _ _ (and-both _ _ (h .isMove) (h .isProper)) (h .isLegal)) (h .isByte)) (h .reaches)
 
-third : (a b c d e f g h : Bool) → (a && b && c && d && e && f && g && h) ≡ true → c ≡ true
-third a b c d e f g h t =
-    and-right (a && b) c
-    (and-left (a && b && c) d (and-left (a && b && c && d) e (and-left (a && b && c && d && e) f (and-left (a && b && c && d && e && f) g (and-left (a && b && c && d && e && f && g) h t)))))
-
-pub same-counts : (x y : Position) → samePosition x y ≡ true → x .counts ≡ y .counts
-unfolding samePosition
-same-counts x y h =
-    same-list (x .counts) (y .counts)
-    (third (sameList (x .deal) (y .deal)) (eqb (x .step) (y .step)) (sameList (x .counts) (y .counts)) (sameList (x .heights) (y .heights)) (eqb (x .left) (y .left)) (sameList (take (x .left) (x .deck)) (take (y .left) (y .deck))) (eqb (x .offset) (y .offset)) (eqb (x .visible) (y .visible)) h)
-
 -- two positions of one deal are the same, or not, by all the rest
 pub same-bare : (x y u v : Position) → bare x ≡ bare u → bare y ≡ bare v → x .deal ≡ y .deal → u .deal ≡ v .deal → samePosition x y ≡ samePosition u v
-unfolding samePosition bare
-same-bare x y u v e f h k =
-    λ i.
-    (same x y h ∙ sym (same u v k)) i && eqb (e i .step) (f i .step) && sameList (e i .counts) (f i .counts)
-    && sameList (e i .heights) (f i .heights)
-    && eqb (e i .left) (f i .left)
-    && sameList (take (e i .left) (e i .deck)) (take (f i .left) (f i .deck))
-    && eqb (e i .offset) (f i .offset)
-    && eqb (e i .visible) (f i .visible)
+unfolding samePosition sameInDeal sameDeck bare
+same-bare x y u v e f h k = λ i. (same x y h ∙ sym (same u v k)) i && sameInDeal (e i) (f i)
   where
     same : (a b : Position) → a .deal ≡ b .deal → sameList (a .deal) (b .deal) ≡ true
     same a b t = ap (sameList (a .deal)) (sym t) ∙ list-same (a .deal)

@@ -15,7 +15,7 @@ use Rattle.rules.specs.Play.{undoByte}
 use Rattle.rules.specs.History.{entry, samePosition}
 use Rattle.rules.specs.Answers.{lastEntry, undoRefusal, undoAnswer}
 use Rattle.rules.specs.Demands.{Game, moveIn, undoIn, afterMove, afterUndo, afterMoves, MovesAccepted, afterUndos, UndosAccepted, playedAndUndone, UndoWholeGame}
-use Rattle.laws.proofs.Spare.{same-tidy, tidy-same}
+use Rattle.facts.proofs.Tidy.{same-tidy, tidy-same}
 use Rattle.facts.proofs.Shapes.{after-shape}
 use Rattle.laws.proofs.UndoMove.{written-is, move-taken, undo-after-move}
 use Rattle.laws.proofs.UndoSame.{undo-same}

@@ -19,7 +19,8 @@ use Rattle.rules.specs.Demands.{UndoSame}
 use Rattle.rules.proofs.Facts.{facts-of}
 use Rattle.rules.proofs.Refusing.{refuses-same}
 use Rattle.facts.proofs.Allowed.{undo-allowed}
-use Rattle.laws.proofs.Spare.{tidy, same-tidy, tidy-same, tidy-proper, tidy-legal, tidy-byte}
+use Rattle.laws.proofs.Spare.{tidy-proper, tidy-legal, tidy-byte}
+use Rattle.facts.proofs.Tidy.{tidy, same-tidy, tidy-same}
 use Rattle.laws.proofs.SpareMoves.{tidy-after, tidy-before}
 
 module _ (p q : Position) (e : tidy p ≡ tidy q) where

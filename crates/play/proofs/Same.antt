@@ -10,10 +10,9 @@ use lib.ListN.{length, getD, take}
 use lib.Seq.{length-take-le, getD-take, ext-getD}
 use Rattle.rules.specs.declared.Position.{Position}
 use Rattle.rules.specs.Bits.{sameList}
-use Rattle.rules.specs.History.{samePosition}
+use Rattle.rules.specs.History.{samePosition, sameDeck, sameInDeal}
 use Rattle.bits.proofs.Searches.{is-false}
 use Rattle.rules.proofs.SameList.{same-list, list-same}
-use Rattle.play.specs.Undone.{sameDeck, sameInDeal}
 
 module _ (a b : List ℕ) (n : ℕ) (la : n ≤ length a) (lb : n ≤ length b) where
   pub bytes-same : ((k : ℕ) → k < n → getD a k 0 ≡ getD b k 0) → sameList (take n a) (take n b) ≡ true
@@ -29,14 +28,6 @@ module _ (a b : List ℕ) (n : ℕ) (la : n ≤ length a) (lb : n ≤ length b) 
       is-false (sameList (take n a) (take n b))
       (λ e. d (sym (getD-take n a i 0 l) ∙ ap (λ (x : List ℕ). getD x i 0) (same-list (take n a) (take n b) e) ∙ getD-take n b i 0 l))
 
-and-assoc : (a b c : Bool) → (a && b && c) ≡ (a && (b && c))
-and-assoc true b c = refl
-and-assoc false b c = refl
-
 pub same-is : (p q : Position) → p .deal ≡ q .deal → samePosition p q ≡ sameInDeal p q
-unfolding samePosition sameInDeal sameDeck
-same-is p q d =
-    ap (λ (x : Bool). x && eqb (p .step) (q .step) && sameList (p .counts) (q .counts) && sameList (p .heights) (q .heights) && eqb (p .left) (q .left) && sameList (take (p .left) (p .deck)) (take (q .left) (q .deck)) && eqb (p .offset) (q .offset) && eqb (p .visible) (q .visible))
-    (ap (sameList (p .deal)) (sym d) ∙ list-same (p .deal))
-    ∙ ap (λ (x : Bool). x && eqb (p .offset) (q .offset) && eqb (p .visible) (q .visible))
-    (and-assoc (eqb (p .step) (q .step) && sameList (p .counts) (q .counts) && sameList (p .heights) (q .heights)) (eqb (p .left) (q .left)) (sameList (take (p .left) (p .deck)) (take (q .left) (q .deck))))
+unfolding samePosition
+same-is p q d = ap (λ (x : Bool). x && sameInDeal p q) (ap (sameList (p .deal)) (sym d) ∙ list-same (p .deal))

@@ -10,7 +10,8 @@ use Rattle.rules.proofs.Facts.{facts}
 use Rattle.facts.proofs.DealKept.{after-deal}
 use Rattle.play.specs.declared.Made.{Made}
 use Rattle.play.specs.Made.{made}
-use Rattle.play.specs.Undone.{sameInDeal, leadsTo}
+use Rattle.play.specs.Undone.{leadsTo}
+use Rattle.rules.specs.History.{sameInDeal}
 use Rattle.play.proofs.Answered.{denied, granted}
 use Rattle.play.proofs.Same.{same-is}
 use Rattle.play.proofs.entries.leads_to.Statement.{statement}

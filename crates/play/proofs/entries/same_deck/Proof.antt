@@ -8,7 +8,7 @@ use lib.ListN.{take}
 use borrow.Author.Tests.{eq-eqb, ne-eqb}
 use Rattle.rules.specs.Bits.{sameList}
 use Rattle.rules.proofs.Shape.{shape}
-use Rattle.play.specs.Undone.{sameDeck}
+use Rattle.rules.specs.History.{sameDeck}
 use Rattle.play.proofs.entries.same_deck.Statement.{statement}
 use Rattle.play.proofs.entries.same_deck.Tie as tie
 

@@ -2,7 +2,7 @@
 -- Assumes nothing.
 use borrow.Author.Needs.{needs}
 use borrow.Author.Tests.{eq-eqb, ne-eqb}
-use Rattle.play.specs.Undone.{sameInDeal}
+use Rattle.rules.specs.History.{sameInDeal}
 use Rattle.play.proofs.Answered.{denied, granted}
 use Rattle.play.proofs.entries.same_in_deal.Statement.{statement}
 use Rattle.play.proofs.entries.same_in_deal.Tie as tie
