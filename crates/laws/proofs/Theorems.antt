@@ -1,9 +1,8 @@
 -- Every demand of document 01 besides the contracts, as one line each: the theorem's name and the statement that it proves. The statements stand in
--- rules/specs (Demands, Secrecy, Outcomes), under the document's sentences. The six main ones come first. Nothing is assumed.
+-- rules/specs (Demands, Secrecy), under the document's sentences. The six main ones come first. Nothing is assumed.
 use Rattle.rules.specs.Dealing.{DealsRight}
 use Rattle.rules.specs.Worked.{W}
 use Rattle.rules.specs.Secrecy.{dealtFresh, KeepsSecrets}
-use Rattle.rules.specs.Outcomes.{OneOutcome}
 use Rattle.rules.specs.Demands.{MovesKeepProper, UndoAfterMove, RefusalExact, SaveResumeInverse, PrunedWithin, FreshProper, ResumedProper, CodeOfOne, UndoableSound, UndoableComplete, UndoableUnshaped, EarlierUnique, EntriesFit, ListedWithin, ListsLegal, ListsFew, ShownOnce, BytesShowOnce, PilesArranged}
 use Rattle.rules.proofs.DealsLaw.{deals-right as deals}
 use Rattle.rules.proofs.PrunedLaw.{pruned-within as within}
@@ -24,7 +23,6 @@ use Rattle.laws.proofs.PileBytes.{bytes-show-once as bytes}
 use Rattle.laws.proofs.Arranged.{piles-arranged as arranged}
 use Rattle.laws_examples.proofs.NotVacuous.{W′, W″, Meets, Differs, calls, later, code, reveal, meets-fresh, meets-resumed, shows}
 use Rattle.laws.proofs.Secrets.{keeps-secrets as secrets}
-use Rattle.laws.proofs.OneOutcome.{one-outcome as outcome}
 
 -- ---- the six
 
@@ -56,11 +54,6 @@ resumed-runs = meets-resumed
 
 pub turned-up-shows : Differs W W″ reveal
 turned-up-shows = shows
-
--- ---- every contract allows one outcome
-
-pub one-outcome : OneOutcome
-one-outcome = outcome
 
 -- ---- the positions that a game begins with
 
