@@ -1,9 +1,9 @@
 -- Every demand of document 01 besides the contracts, as one line each: the theorem's name and the statement that it proves. The statements stand in
--- rules/specs (Demands, Secrecy, Outcomes), under the document's sentences. The six main ones come first. Nothing is assumed.
+-- rules/specs (Demands, Secrecy), under the document's sentences. The six main ones come first. Nothing is assumed.
 use Rattle.rules.specs.Dealing.{DealsRight}
 use Rattle.rules.specs.Worked.{W}
 use Rattle.rules.specs.Secrecy.{dealtFresh, KeepsSecrets}
-use Rattle.rules.specs.Outcomes.{OneOutcome}
+use Rattle.panel.specs.Firm.{OneOutcome, TellsRefusal, RefusedKeeps}
 use Rattle.rules.specs.Demands.{MovesKeepProper, UndoAfterMove, UndoSame, UndoWholeGame, RefusalExact, SaveResumeInverse, PrunedWithin, FreshProper, ResumedProper, CodeOfOne, UndoableSound, UndoableComplete, UndoableUnshaped, EarlierUnique, EntriesFit, ListedWithin, ListsLegal, ListsFew, ShownOnce, BytesShowOnce, PilesArranged}
 use Rattle.rules.proofs.DealsLaw.{deals-right as deals}
 use Rattle.rules.proofs.PrunedLaw.{pruned-within as within}
@@ -26,7 +26,8 @@ use Rattle.laws.proofs.PileBytes.{bytes-show-once as bytes}
 use Rattle.laws.proofs.Arranged.{piles-arranged as arranged}
 use Rattle.laws.proofs.NotVacuous.{W′, W″, Meets, Differs, calls, later, code, reveal, meets-fresh, meets-resumed, shows}
 use Rattle.laws.proofs.Secrets.{keeps-secrets as secrets}
-use Rattle.laws.proofs.OneOutcome.{one-outcome as outcome}
+use Rattle.panel.proofs.OneOutcome.{one-outcome as outcome}
+use Rattle.panel.proofs.RefusedKeeps.{tells-refusal as tells, refused-keeps as kept}
 
 -- ---- the six
 
@@ -59,10 +60,16 @@ resumed-runs = meets-resumed
 pub turned-up-shows : Differs W W″ reveal
 turned-up-shows = shows
 
--- ---- every contract allows one outcome
+-- ---- every contract allows one outcome; an answer tells its refusal; "A refused call changes nothing lent to it and returns the position it was given"
 
 pub one-outcome : OneOutcome
 one-outcome = outcome
+
+pub tells-refusal : TellsRefusal
+tells-refusal = tells
+
+pub refused-keeps : RefusedKeeps
+refused-keeps = kept
 
 -- ---- the positions that a game begins with
 
