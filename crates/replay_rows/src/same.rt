@@ -1,20 +1,6 @@
 // Whether a call handed the position back as it was.
 use rules::Position;
 
-// The position of a refused deal or resume: all numbers 0.
-pub fn blank() -> Position {
-    Position {
-        deal: [0u8; 52],
-        step: 0,
-        counts: [0u8; 7],
-        heights: [0u8; 4],
-        deck: [0u8; 24],
-        left: 0,
-        offset: 0,
-        visible: 0,
-    }
-}
-
 // Whether two positions agree in the numbers that are no arrays.
 fn same_numbers(p: Position, q: Position) -> bool {
     p.step == q.step && p.left == q.left && p.offset == q.offset && p.visible == q.visible

@@ -1,6 +1,6 @@
 // The position and the history that the records' calls act on, and the answer to the record at hand.
 // It goes from function to function by value: that proves faster than lent memory.
-use crate::same::blank;
+use deal::blank;
 use crate::same::same;
 use replay_bytes::Answer;
 use rules::Position;
