@@ -1,9 +1,7 @@
 -- `code::encode` meets its contract.
 -- Assumes nothing.
 use borrow.Author.Needs.{needs}
-use lib.Dec.{T}
 use Rattle.bits.proofs.Tables.{T-true}
-use Rattle.rules.specs.declared.Position.{Position}
 use Rattle.rules.specs.Places.{count, height}
 use Rattle.rules.specs.Proper.{proper}
 use Rattle.rules.proofs.ProperLaw.{parts}
@@ -12,11 +10,30 @@ use Rattle.code.proofs.Parts.{code-is, gone-is}
 use Rattle.code.proofs.encode.Statement.{statement}
 use Rattle.code.proofs.encode.Tie as tie
 
-ranges : (p : Position) → T (proper p) → Numbers p
-ranges p t = numbers p (parts p (T-true (proper p) t) .numbers)
+-- ---- the way back from each place to the one before it, and to the position
+
+abbrev begun : tie.After-heights2 → tie.Start
+begun c = c .before .before .before
+
+abbrev masked : tie.After-encode → tie.After-foundation-mask
+masked c = c .before .before
+
+abbrev piled : tie.After-encode2 → tie.After-encode
+piled c = c .before .before
+
+abbrev of-heights : tie.After-encode → tie.Start
+of-heights c = begun (masked c .before)
+
+abbrev of-piles : tie.After-encode2 → tie.Start
+of-piles c = of-heights (piled c)
+
+ranges : (c : tie.Start) → Numbers (c .args .p)
+ranges c = let p = c .args .p in numbers p (parts p (T-true (proper p) (c .pre)) .numbers)
+
+-- ---- the needs
 
 foundation-mask-requires : tie.Need-foundation-mask-requires
-foundation-mask-requires c κs = let s = c .before .before .before in ranges (s .args .p) (s .pre) .heights
+foundation-mask-requires c κs = ranges (begun c) .heights
 
 encode-requires : tie.Need-encode-requires
 encode-requires c κs = search needs
@@ -25,7 +42,7 @@ cast-result : tie.Need-cast-result
 cast-result c = search needs
 
 encode-requires-2 : tie.Need-encode-requires-2
-encode-requires-2 c κs = let s = c .before .before .before .before .before .before .before in ranges (s .args .p) (s .pre) .counts
+encode-requires-2 c κs = ranges (of-heights (c .before)) .counts
 
 cast-result-2 : tie.Need-cast-result-2
 cast-result-2 c = search needs
@@ -38,9 +55,8 @@ shl-result c = search needs
 
 encode-requires-3 : tie.Need-encode-requires-3
 encode-requires-3 c κs =
-    let f = c .before .before .before .before in
-    let s = f .before .before .before .before in
-    (s .pre, gone-is (s .args .p) (ranges (s .args .p) (s .pre)) _ (f .foundation-mask .ensures))
+    let s = of-piles c in
+    (s .pre, gone-is (s .args .p) (ranges s) _ (masked (piled c) .foundation-mask .ensures))
 
 cast-result-4 : tie.Need-cast-result-4
 cast-result-4 c = search needs
@@ -52,7 +68,7 @@ shl-result-2 : tie.Need-shl-result-2
 shl-result-2 c = search needs
 
 normalized-offset-requires : tie.Need-normalized-offset-requires
-normalized-offset-requires c κs = let s = c .before .before .before .before .before .before .before .before .before in step-low _ (ranges (s .args .p) (s .pre) .step)
+normalized-offset-requires c κs = step-low _ (ranges (of-piles (c .before)) .step)
 
 cast-result-6 : tie.Need-cast-result-6
 cast-result-6 c = search needs
@@ -65,8 +81,9 @@ shl-result-3 c = search needs
 
 returns : tie.Need-returns
 returns c =
-    let b = c .before .before .before .before .before .before .before .before .before .before in
-    code-is (b .args .p) (ranges (b .args .p) (b .pre)) _ _ _ _ (c .before .before .before .before .encode .ensures) (c .before .before .encode2 .ensures) (c .before .encode3 .ensures) (c .normalized-offset .ensures)
+    let n = c .before .before in
+    let s = of-piles n in
+    code-is (s .args .p) (ranges s) _ _ _ _ (piled n .encode .ensures) (n .encode2 .ensures) (c .before .encode3 .ensures) (c .normalized-offset .ensures)
 
 pub encode-spec : {M : Type 1} → statement M
 encode-spec =

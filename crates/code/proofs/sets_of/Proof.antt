@@ -13,6 +13,25 @@ use Rattle.code.proofs.sets_of.Statement.{statement}
 use Rattle.code.proofs.sets_of.Tie as tie
 use Rattle.rules.specs.Foundations.{stackedOn}
 
+-- ---- the way back from each place to the one before it
+
+abbrev begun : tie.After-heights2 → tie.Start
+begun c = c .before .before .before .before .before
+
+abbrev founded : tie.After-deck2 → tie.After-foundation-mask
+founded c = c .before
+
+abbrev drawn : tie.After-buried-mask → tie.After-cards-from
+drawn c = c .before .before .before
+
+abbrev buried : tie.After-head-mask → tie.After-buried-mask
+buried c = c .before .before .before
+
+abbrev of-deck : tie.After-deck2 → tie.Start
+of-deck c = begun (founded c .before)
+
+-- ---- the needs
+
 foundation-mask-requires : tie.Need-foundation-mask-requires
 foundation-mask-requires c κs = search needs
 
@@ -24,7 +43,7 @@ cast-cards-from c = search needs
 
 cards-from-requires : tie.Need-cards-from-requires
 cards-from-requires c κs =
-    let b = c .before .before .before .before .before .before .before in
+    let b = of-deck c in
     omega (arith, b .pre .left, shape (b .args .p) _ (b .good .0) .deck)
 
 buried-mask-requires : tie.Need-buried-mask-requires
@@ -36,10 +55,10 @@ head-mask-requires c κs = search needs
 returns : tie.Need-returns
 unfolding setsOf stackedOn inDeck buriedIn headIn
 returns c =
-    let f = c .before .before .before .before .before .before .before .before in
-    let b = f .before .before .before .before .before .before in
-    let d : c .before .before .before .before .before .before .cards-from .result ≡ maskOf 52 (inDeck (b .args .p)) = c .before .before .before .before .before .before .cards-from .ensures ∙ cards-are (b .args .p .deck) (b .args .p .left) (b .pre .deck) in
-    cc (f .foundation-mask .ensures, d, c .before .before .before .buried-mask .ensures, c .head-mask .ensures)
+    let k = drawn (buried c) in
+    let b = of-deck (k .before) in
+    let d : k .cards-from .result ≡ maskOf 52 (inDeck (b .args .p)) = k .cards-from .ensures ∙ cards-are (b .args .p .deck) (b .args .p .left) (b .pre .deck) in
+    cc (founded (k .before) .foundation-mask .ensures, d, buried c .buried-mask .ensures, c .head-mask .ensures)
 
 pub sets-of-spec : {M : Type 1} → statement M
 sets-of-spec =

@@ -14,8 +14,12 @@ use Rattle.deal.proofs.Answered.{is-refused, is-started}
 use Rattle.deal.proofs.deal.Statement.{statement}
 use Rattle.deal.proofs.deal.Tie as tie
 
+-- the way back to what was given
+abbrev begun : tie.Else1 → tie.Start
+begun c = c .before .before .before
+
 -- a deal that is not refused passes its four tests
-dealt : (c : tie.Else1) → Dealt (c .before .before .before .args .cards .now) (c .before .before .before .args .step)
+dealt : (c : tie.Else1) → Dealt (begun c .args .cards .now) (begun c .args .step)
 dealt c = deal-passed _ _ (sym (c .before .deal-refusal .ensures) ∙ c .if1 .left)
 
 deal-refusal-requires : tie.Need-deal-refusal-requires
@@ -40,7 +44,7 @@ returns-2 : tie.Need-returns-2
 unfolding dealAnswer
 returns-2 c =
     let b = c .before .before in
-    let s = b .before .before .before .args in
+    let s = begun b .args in
     is-started (dealRefusal (s .cards .now) (s .step)) (fresh (s .cards .now) (s .step)) _ (sym (b .before .deal-refusal .ensures) ∙ b .if1 .left)
     (c .fresh .ensures ∙ ap (λ (d : List ℕ). fresh d (s .step)) (c .before .as-deal .ensures))
 

@@ -28,20 +28,28 @@ front asked p o x a e f =
     ap (λ (y : Listed). y .count) e ∙ counted (listingRefusal asked p (length o)) (listing (masksFor asked p)) in
     (n, ap₂ take n f ∙ take-at (listingFront asked p o) (drop (length (listingFront asked p o)) o) (length (listingFront asked p o)) refl)
 
+-- ---- the way back to the inner listing, and to what was given
+
+abbrev begun : tie.After-list-into → tie.Start
+begun c = c .before .before .before
+
+abbrev listed : tie.After-out2 → tie.After-list-into
+listed c = c .before .before .before
+
 list-into-requires : tie.Need-list-into-requires
 list-into-requires c κs = search needs
 
 slice-aggregate-result : tie.Need-slice-aggregate-result
 slice-aggregate-result c =
-    let s = c .before .before .before .before .before .before in
-    let l = c .before .before .before .list-into in
+    let s = begun (listed c) in
+    let l = listed c .list-into in
     let w = front _ (s .args .p) (now (s .args .out)) (l .last .1 .1 .0) (l .result) (l .ensures .0) (l .ensures .1) in
     w .0 ∙ sym (ap length (w .1))
 
 returns : tie.Need-returns
 returns c =
-    let s = c .before .before .before .before .before .before in
-    let l = c .before .before .before .list-into in
+    let s = begun (listed c) in
+    let l = listed c .list-into in
     (front (s .args .pruned) (s .args .p) (now (s .args .out)) (l .last .1 .1 .0) (l .result) (l .ensures .0) (l .ensures .1) .1, refl)
 
 pub list-spec : {M : Type 1} → statement M

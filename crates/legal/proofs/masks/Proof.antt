@@ -13,6 +13,19 @@ use borrow.Author.Needs.{needs}
 use Rattle.legal.proofs.masks.Statement.{statement}
 use Rattle.legal.proofs.masks.Tie as tie
 
+-- ---- the way back from the end to the deck's mask, and to the position
+
+abbrev looked : tie.After-compute-mask → tie.After-look
+looked c = c .before .before
+
+abbrev read : tie.After-struct-known6 → tie.After-struct-known3
+read c = c .before .before .before
+
+abbrev drawn : tie.After-struct-known3 → tie.After-compute-mask
+drawn c = c .before .before .before
+
+-- ---- the needs
+
 heads-requires : tie.Need-heads-requires
 heads-requires c κs = search needs
 
@@ -32,16 +45,18 @@ swap-pair-requires c κs = search needs
 returns : tie.Need-returns
 unfolding code sight
 returns c =
-    let p = c .before .before .before .before .before .before .before .before .before .before .before .args .p in
-    let e = c .before .before .before .before .before .before .before .before .before .look .ensures in
-    let room = c .before .before .before .before .before .before .before .before .room-mask .result in
-    let dm = c .before .before .before .before .before .before .before .compute-mask .result in
+    let k = drawn (read (c .before)) in
+    let b = looked k .before .before in
+    let p = b .args .p in
+    let e = looked k .look .ensures in
+    let room = k .before .room-mask .result in
+    let dm = k .compute-mask .result in
     let sw = c .swap-pair .result in
     ap (λ (s : Sight). code s room dm sw) e
-    ∙ ap (λ (r : ℕ). code (sight p) r dm sw) (c .before .before .before .before .before .before .before .before .room-mask .ensures)
-    ∙ ap (λ (d : ℕ). code (sight p) (maskOf 52 (hasRoom p)) d sw) (c .before .before .before .before .before .before .before .compute-mask .ensures)
-    ∙ ap (λ (w : ℕ). code (sight p) (maskOf 52 (hasRoom p)) (maskOf 52 (available p)) w) (c .swap-pair .ensures ∙ ap (λ (s : Sight). maskOf 64 (λ k. bit (s .sm / 16) (twin k))) e)
-    ∙ code-is p (c .before .before .before .before .before .before .before .before .before .before .before .pre)
+    ∙ ap (λ (r : ℕ). code (sight p) r dm sw) (k .before .room-mask .ensures)
+    ∙ ap (λ (d : ℕ). code (sight p) (maskOf 52 (hasRoom p)) d sw) (k .compute-mask .ensures)
+    ∙ ap (λ (w : ℕ). code (sight p) (maskOf 52 (hasRoom p)) (maskOf 52 (available p)) w) (c .swap-pair .ensures ∙ ap (λ (s : Sight). maskOf 64 (λ j. bit (s .sm / 16) (twin j))) e)
+    ∙ code-is p (b .pre)
 
 pub masks-spec : {M : Type 1} → statement M
 masks-spec =

@@ -11,6 +11,28 @@ use borrow.Author.Needs.{needs}
 use Rattle.moves.proofs.list_into.Statement.{statement}
 use Rattle.moves.proofs.list_into.Tie as tie
 
+-- ---- the way back from each mask that was written to the one before it, and to what was given
+
+abbrev begun : tie.Else1 → tie.Start
+begun c = c .before .before .before
+
+abbrev roomy : tie.After-fill → tie.Else1
+roomy c = c .before .before
+
+abbrev first : tie.After-fill2 → tie.After-fill
+first c = c .before .before .before .before
+
+abbrev second : tie.After-fill3 → tie.After-fill2
+second c = c .before .before .before .before
+
+abbrev third : tie.After-fill4 → tie.After-fill3
+third c = c .before .before .before .before
+
+abbrev fourth : tie.After-fill5 → tie.After-fill4
+fourth c = c .before .before .before .before
+
+-- ---- the needs
+
 len-requires : tie.Need-len-requires
 len-requires c κs = search needs
 
@@ -18,7 +40,9 @@ cast-if1 : tie.Need-cast-if1
 cast-if1 c = search needs
 
 returns : tie.Need-returns
-returns c = too-short (c .before .before .before .args .m) (c .before .before .before .pre) (now (c .before .before .before .args .out)) (omega arith)
+returns c =
+    let s = c .before .before .before in
+    too-short (s .args .m) (s .pre) (now (s .args .out)) (omega arith)
 
 cast-fill : tie.Need-cast-fill
 cast-fill c = search needs
@@ -76,14 +100,19 @@ same-length c = search needs
 returns-2 : tie.Need-returns-2
 unfolding listing
 returns-2 c =
-    let s = c .before .before .before .before .before .before .before .before .before .before .before .before .before .before .before .before .before .before .before .before .before .before .before in
+    let f5 = c .before .before in
+    let f4 = fourth f5 in
+    let f3 = third f4 in
+    let f2 = second f3 in
+    let f1 = first f2 in
+    let s = begun (roomy f1) in
     let m = s .args .m in
     let o = now (s .args .out) in
-    let w1 = more 4 (m .reveal) (c .before .before .before .before .before .before .before .before .before .before .before .before .before .before .before .before .before .before .fill .last .1 .1 .0) (c .before .before .before .before .before .before .before .before .before .before .before .before .before .before .before .before .before .before .fill .result) (s .pre .reveal) (none o) (c .before .before .before .before .before .before .before .before .before .before .before .before .before .before .before .before .before .before .fill .ensures) in
-    let w2 = more 1 (m .«pile_stack») (c .before .before .before .before .before .before .before .before .before .before .before .before .before .before .fill2 .last .1 .1 .0) (c .before .before .before .before .before .before .before .before .before .before .before .before .before .before .fill2 .result) (s .pre .«pile_stack») w1 (c .before .before .before .before .before .before .before .before .before .before .before .before .before .before .fill2 .ensures) in
-    let w3 = more 2 (m .«deck_pile») (c .before .before .before .before .before .before .before .before .before .before .fill3 .last .1 .1 .0) (c .before .before .before .before .before .before .before .before .before .before .fill3 .result) (s .pre .«deck_pile») w2 (c .before .before .before .before .before .before .before .before .before .before .fill3 .ensures) in
-    let w4 = more 0 (m .«deck_stack») (c .before .before .before .before .before .before .fill4 .last .1 .1 .0) (c .before .before .before .before .before .before .fill4 .result) (s .pre .«deck_stack») w3 (c .before .before .before .before .before .before .fill4 .ensures) in
-    let w5 = more 3 (m .«stack_pile») (c .before .before .fill5 .last .1 .1 .0) (c .before .before .fill5 .result) (s .pre .«stack_pile») w4 (c .before .before .fill5 .ensures) in
+    let w1 = more 4 (m .reveal) (f1 .fill .last .1 .1 .0) (f1 .fill .result) (s .pre .reveal) (none o) (f1 .fill .ensures) in
+    let w2 = more 1 (m .«pile_stack») (f2 .fill2 .last .1 .1 .0) (f2 .fill2 .result) (s .pre .«pile_stack») w1 (f2 .fill2 .ensures) in
+    let w3 = more 2 (m .«deck_pile») (f3 .fill3 .last .1 .1 .0) (f3 .fill3 .result) (s .pre .«deck_pile») w2 (f3 .fill3 .ensures) in
+    let w4 = more 0 (m .«deck_stack») (f4 .fill4 .last .1 .1 .0) (f4 .fill4 .result) (s .pre .«deck_stack») w3 (f4 .fill4 .ensures) in
+    let w5 = more 3 (m .«stack_pile») (f5 .fill5 .last .1 .1 .0) (f5 .fill5 .result) (s .pre .«stack_pile») w4 (f5 .fill5 .ensures) in
     all-written m (s .pre) o _ _ (omega arith) w5
 
 pub list-into-spec : {M : Type 1} → statement M

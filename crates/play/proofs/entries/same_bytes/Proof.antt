@@ -16,6 +16,10 @@ Inv-loop a b n i₀ i = (i ≤ n) × ((k : ℕ) → k < i → getD a k 0 ≡ get
 abbrev μ-loop : tie.MeasureT-loop
 μ-loop a b n i₀ i = n - i
 
+-- the way back to the head of the loop
+abbrev turn : (c : tie.After-shared-slice-known2 Inv-loop μ-loop) → tie.At-loop Inv-loop μ-loop
+turn c = c .before .before .before
+
 loop-holds : tie.Need-loop-holds Inv-loop μ-loop
 loop-holds c = search needs
 
@@ -27,7 +31,7 @@ shared-slice-read-if1-2 c = omega arith
 
 returns : tie.Need-returns Inv-loop μ-loop
 returns c =
-    let l = c .before .before .before .before in
+    let l = turn (c .before) in
     let b = l .before in
     sym (bytes-differ (b .args .a .now) (b .args .b .now) (b .args .n) (b .pre .0) (b .pre .1) (l .loop .i) (omega arith) (c .if1 .taken))
 
@@ -38,7 +42,7 @@ loop-less : tie.Need-loop-less Inv-loop μ-loop
 loop-less c = omega arith
 
 loop-again : tie.Need-loop-again Inv-loop μ-loop
-loop-again c = (omega arith, below-more _ _ (c .before .before .before .before .loop .inv .1) (c .if1 .left))
+loop-again c = (omega arith, below-more _ _ (turn (c .before) .loop .inv .1) (c .if1 .left))
 
 returns-2 : tie.Need-returns-2 Inv-loop μ-loop
 returns-2 c =

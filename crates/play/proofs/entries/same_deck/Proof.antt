@@ -12,6 +12,16 @@ use Rattle.rules.specs.History.{sameDeck}
 use Rattle.play.proofs.entries.same_deck.Statement.{statement}
 use Rattle.play.proofs.entries.same_deck.Tie as tie
 
+-- ---- the way back to the two positions
+
+abbrev begun : tie.Else1 → tie.Start
+begun c = c .before .before .before .before
+
+abbrev counted : tie.After-b2 → tie.Else1
+counted c = c .before .before
+
+-- ---- the needs
+
 returns : tie.Need-returns
 unfolding sameDeck
 returns c = rw (ne-eqb _ _ (c .if1 .taken))
@@ -27,14 +37,15 @@ cast-same-bytes c = search needs
 
 same-bytes-requires : tie.Need-same-bytes-requires
 same-bytes-requires c κs =
-    let b = c .before .before .before .before .before .before in
+    let b = begun (counted c) in
     (omega (arith, b .pre, shape (b .args .p) _ (b .good .0) .deck), omega (arith, b .pre, shape (b .args .q) _ (b .good .1 .0) .deck))
 
 returns-2 : tie.Need-returns-2
 unfolding sameDeck
 returns-2 c =
-    let a = c .before .before .before .before .before .before .before .args in
-    let e : a .p .left ≡ a .q .left = c .before .before .before .if1 .left in
+    let d = counted (c .before) in
+    let a = begun d .args in
+    let e : a .p .left ≡ a .q .left = d .if1 .left in
     rw (eq-eqb _ _ e) (c .same-bytes .ensures ∙ ap (λ (n : ℕ). sameList (take n (a .p .deck)) (take (a .q .left) (a .q .deck))) (sym e))
 
 pub same-deck-spec : {M : Type 1} → statement M

@@ -23,6 +23,23 @@ use Rattle.play.proofs.Halfway.{Making, from-deck-up, from-deck, from-s
 use Rattle.play.proofs.make.do_move.Statement.{statement}
 use Rattle.play.proofs.make.do_move.Tie as tie
 
+-- ---- the way back from each place to the card's suit, or to where the kinds come together
+
+abbrev sought : tie.After-place-of → tie.At-match-keys1
+sought c = c .before .before
+
+abbrev drawn : tie.After-draw → tie.After-suit
+drawn c = sought (c .before) .before
+
+abbrev raised : tie.After-unseen → tie.After-suit
+raised c = c .before .before .before
+
+abbrev lessened : tie.After-one-less2 → tie.Then2
+lessened c = c .before .before
+
+abbrev under : tie.After-pile-start → tie.After-one-less2
+under c = c .before .before
+
 -- ---- the card's suit and its place in the deck
 
 suit-low : (c : tie.After-suit) → c .suit .result < 4
@@ -38,13 +55,13 @@ in-deck c =
     let of : (k : ℕ) → a .kind ≡ k → T (legal (a .t1) k (a .card)) = λ k e. subst (λ (x : ℕ). T (legal (a .t1) x (a .card))) e (b .pre .1) in
     ⊎-elim (λ e. deck-stack-in (a .t1) (a .card) (of 0 e)) (λ e. deck-pile-in (a .t1) (a .card) (of 2 e)) (c .match .keys1)
 
-low : (c : tie.After-place-of) → c .place-of .result < c .before .before .before .before .args .t1 .left
+low : (c : tie.After-place-of) → c .place-of .result < sought c .before .before .args .t1 .left
 unfolding deckPlace
 low c =
-    let b = c .before .before .before .before in
+    let b = sought c .before .before in
     let p = b .args .t1 in
     subst (λ (k : ℕ). k < p .left) (sym (c .place-of .ensures))
-    (place-low p (b .args .card) (shape p _ (b .good .0) .deck) (facts p (b .pre .0) .left) (T-true _ (in-deck (c .before .before))))
+    (place-low p (b .args .card) (shape p _ (b .good .0) .deck) (facts p (b .pre .0) .left) (T-true _ (in-deck (sought c))))
 
 -- ---- halfway
 
@@ -79,9 +96,9 @@ fits c =
     let b = c .before .before .before in
     same-fit (b .args .t1) (b .pre .0) (c .before .match .p) (mid (c .before) .counts) (c .before .match .pile) (c .if2 .taken)
 
-place : (c : tie.After-pile-start) → c .pile-start .result + getD (c .before .before .before .before .before .match .p .counts) (c .before .before .before .before .before .match .pile) 0 ≤ 52
+place : (c : tie.After-pile-start) → let m = lessened (under c) .before .match in c .pile-start .result + getD (m .p .counts) (m .pile) 0 ≤ 52
 place c =
-    let t = c .before .before .before .before in
+    let t = lessened (under c) in
     in-deal (t .before .match .pile) (getD (t .before .match .p .counts) (t .before .match .pile) 0) (c .pile-start .result) (t .if2 .taken) (fits t) (c .pile-start .ensures)
 
 -- ---- what the code asks
@@ -96,19 +113,19 @@ place-of-requires : tie.Need-place-of-requires
 place-of-requires c κs = facts (c .before .before .before .args .t1) (c .before .before .before .pre .0) .left
 
 draw-requires : tie.Need-draw-requires
-draw-requires c κs = let b = c .before .before .before .before in (low c, facts (b .args .t1) (b .pre .0) .left)
+draw-requires c κs = let b = sought c .before .before in (low c, facts (b .args .t1) (b .pre .0) .left)
 
 sub-p : tie.Need-sub-p
 sub-p c = omega (arith, low (c .before))
 
 element-copy-out-p : tie.Need-element-copy-out-p
-element-copy-out-p c = suit-low (c .before .before .before .before .before)
+element-copy-out-p c = suit-low (drawn (c .before))
 
 add-p : tie.Need-add-p
-add-p c = omega (arith, roomy (c .before .before .before .before .before .before))
+add-p c = omega (arith, roomy (drawn (c .before .before)))
 
 element-write-p : tie.Need-element-write-p
-element-write-p c = suit-low (c .before .before .before .before .before .before)
+element-write-p c = suit-low (drawn (c .before .before))
 
 seen-requires : tie.Need-seen-requires
 seen-requires c κs = search needs
@@ -138,7 +155,7 @@ unseen-requires : tie.Need-unseen-requires
 unseen-requires c κs = search needs
 
 head-pile-requires : tie.Need-head-pile-requires
-head-pile-requires c κs = let b = c .before .before .before .before in counts-fit (b .args .t1) (b .pre .0)
+head-pile-requires c κs = let b = raised c .before in counts-fit (b .args .t1) (b .pre .0)
 
 cast-byte : tie.Need-cast-byte
 cast-byte c = search needs
@@ -179,8 +196,8 @@ seen-requires-3 c κs = search needs
 returns : tie.Need-returns
 returns c =
     let s = c .before .before in
-    let l = s .before .before in
-    let t = l .before .before in
+    let l = under s in
+    let t = lessened l in
     let m = t .before .match in
     let q = m .p in
     let n = getD (q .counts) (m .pile) 0 in
@@ -192,7 +209,7 @@ returns c =
 returns-2 : tie.Need-returns-2
 returns-2 c =
     let l = c .before in
-    let t = l .before .before in
+    let t = lessened l in
     let m = t .before .match in
     turned-emptied (m .p) (m .pile) (l .one-less2 .result) (m .byte) (l .one-less2 .ensures) (c .if3 .left) ∙ mid (t .before) .some (t .if2 .taken)
 

@@ -18,6 +18,17 @@ use Rattle.play.proofs.Halfway.{Going, to-deck-down, to-deck, to-stack,
 use Rattle.play.proofs.unmake.undo_move.Statement.{statement}
 use Rattle.play.proofs.unmake.undo_move.Tie as tie
 
+-- ---- the way back from each place to the card's suit, or to where the kinds come together
+
+abbrev pushed : tie.After-push → tie.After-suit
+pushed c = c .before .before .before
+
+abbrev lowered : tie.After-seen → tie.After-suit
+lowered c = c .before .before .before .before
+
+abbrev under : tie.After-pile-start → tie.Then3
+under c = c .before .before .before
+
 -- ---- the card's suit, and room in the deck
 
 suit-low : (c : tie.After-suit) → c .suit .result < 4
@@ -68,9 +79,9 @@ fits c =
     let b = c .before .before .before in
     same-fit (b .args .t1) (b .pre .0) (c .before .match .p) (mid (c .before) .counts) (c .before .match .pile) (c .if3 .taken)
 
-place : (c : tie.After-pile-start) → c .pile-start .result + getD (c .before .before .before .before .match .p .counts) (c .before .before .before .before .match .pile) 0 ≤ 52
+place : (c : tie.After-pile-start) → let m = under c .before .match in c .pile-start .result + getD (m .p .counts) (m .pile) 0 ≤ 52
 place c =
-    let t = c .before .before .before in
+    let t = under c in
     in-deal (t .before .match .pile) (getD (t .before .match .p .counts) (t .before .match .pile) 0) (c .pile-start .result) (t .if3 .taken) (fits t) (c .pile-start .ensures)
 
 -- ---- what the code asks
@@ -88,13 +99,13 @@ add-p : tie.Need-add-p
 add-p c = omega (arith, room (c .before .before))
 
 element-copy-out-one-less : tie.Need-element-copy-out-one-less
-element-copy-out-one-less c = suit-low (c .before .before .before .before)
+element-copy-out-one-less c = suit-low (pushed (c .before))
 
 one-less-requires : tie.Need-one-less-requires
 one-less-requires c κs = search needs
 
 element-write-p : tie.Need-element-write-p
-element-write-p c = suit-low (c .before .before .before .before .before .before)
+element-write-p c = suit-low (pushed (c .before .before .before))
 
 unseen-requires : tie.Need-unseen-requires
 unseen-requires c κs = search needs
@@ -124,7 +135,7 @@ seen-requires : tie.Need-seen-requires
 seen-requires c κs = search needs
 
 bare-pile-requires : tie.Need-bare-pile-requires
-bare-pile-requires c κs = let b = c .before .before .before .before .before .before in counts-fit (b .args .t1) (b .pre .0)
+bare-pile-requires c κs = let b = lowered (c .before) .before in counts-fit (b .args .t1) (b .pre .0)
 
 bare-pile-requires-2 : tie.Need-bare-pile-requires-2
 bare-pile-requires-2 c κs = counts-fit (c .before .before .args .t1) (c .before .before .pre .0)
@@ -145,7 +156,7 @@ cast-at : tie.Need-cast-at
 cast-at c = search needs
 
 cast-at-2 : tie.Need-cast-at-2
-cast-at-2 c = omega (arith, fits (c .before .before .before))
+cast-at-2 c = omega (arith, fits (under c))
 
 add-at : tie.Need-add-at
 add-at c = omega (arith, place c)
@@ -162,7 +173,7 @@ unseen-requires-3 c κs = search needs
 returns : tie.Need-returns
 returns c =
     let s = c .before .before in
-    let t = s .before .before .before in
+    let t = under s in
     let m = t .before .match in
     let q = m .p in
     let n = getD (q .counts) (m .pile) 0 in
