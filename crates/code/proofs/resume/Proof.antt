@@ -17,6 +17,8 @@ use Rattle.rules.specs.Code.{table, fieldCount, codeHeight, codePiles, codeCoun
 use Rattle.rules.specs.Answers.{dealRefusal, offsetWrong, resumeAnswer}
 use Rattle.rules.proofs.ProperMade.{step-low}
 use Rattle.rules.proofs.Refusing.{Dealt, deal-passed}
+use Rattle.rules.specs.Fields.{withCounts, withHeights, withSlots, withOffset}
+use Rattle.rules.specs.Code.{begun as parted}
 use Rattle.code.specs.declared.Fields.{Fields}
 use Rattle.deal.specs.Starts.{startedBy}
 use Rattle.code.specs.Resuming.{fieldsOf, Ranged, arrangeAnswer}
@@ -148,16 +150,12 @@ right c = offset-right _ _ (within (turned c)) (sym (stored (c .before)) ∙ eq-
 abbrev made : tie.Else5 → Position
 made c =
     let k = drawn (turned c) in
-    record {
-      deal = k .before .as-deal .result;
-      step = of-5 c .args .step;
-      counts = counted (stocked k) .decode2 .result .counts;
-      heights = raised (counted (stocked k) .before) .decode .result;
-      deck = k .decode3 .result .deck;
-      left = k .decode3 .result .left;
-      offset = fields-deck k .fields-of .result .offset;
-      visible = 0;
-    }
+    let e = counted (stocked k) in
+    withOffset
+    (withSlots
+    (withHeights (withCounts (parted (k .before .as-deal .result) (of-5 c .args .step)) (e .decode2 .result .counts)) (raised (e .before) .decode .result))
+    (k .decode3 .result .deck) (k .decode3 .result .left))
+    (fields-deck k .fields-of .result .offset)
 
 parts : (c : tie.Else5) → made c ≡ codeParts (of-5 c .args .cards .now) (of-5 c .args .step) (of-5 c .args .code)
 parts c =
