@@ -25,7 +25,7 @@ pub fn is_all_up(counts: &[u8; 7]) -> bool
     true
 }
 
-// How many cards are buried.
+// How many cards are buried. Ported, and called by nothing.
 pub fn total_down_cards(counts: &[u8; 7]) -> u8
     requires { ⌜ CountsFit (now counts) ⌝ }
     ensures { λ r. ⌜ r ≡ downCards (now (counts .entry)) ⌝ }

@@ -53,7 +53,7 @@ pub fn buried_mask(deal: &[u8; 52], counts: &[u8; 7]) -> u64
     mask
 }
 
-// The buried cards and the heads.
+// The buried cards and the heads. Ported, and called by nothing.
 pub fn locked_mask(deal: &[u8; 52], counts: &[u8; 7]) -> u64
     requires { ⌜ CardsFit (now deal) ⌝ }
     requires { ⌜ CountsFit (now counts) ⌝ }

@@ -1,5 +1,4 @@
 // The kinds of moves, the moves as five masks, one for each kind, and their listing: what is ported of moves.rs.
-// `is_empty`, `filter`, `combine` and `of_move` are the source's; no call needs them.
 ghost use mathlib.Core.Path.{_≡_};
 ghost use Prim.Native.Nat.{_<_};
 ghost use lib.ListN.{length};
@@ -34,14 +33,14 @@ pub fn len(m: Masks) -> u32
         + bits::count(m.stack_pile)
 }
 
-// Is there no move?
+// Is there no move? Ported, and called by nothing.
 pub fn is_empty(m: Masks) -> bool
     ensures { λ r. ⌜ r ≡ noMoves m ⌝ }
 {
     (m.reveal | m.pile_stack | m.deck_pile | m.deck_stack | m.stack_pile) == 0
 }
 
-// The moves of m that are none of those to remove.
+// The moves of m that are none of those to remove. Ported, and called by nothing.
 pub fn filter(m: Masks, remove: Masks) -> Masks
     ensures { λ r. ⌜ r ≡ filtered m remove ⌝ }
 {
@@ -54,7 +53,7 @@ pub fn filter(m: Masks, remove: Masks) -> Masks
     }
 }
 
-// The moves of either.
+// The moves of either. Ported, and called by nothing.
 pub fn combine(m: Masks, other: Masks) -> Masks
     ensures { λ r. ⌜ r ≡ combined m other ⌝ }
 {
@@ -67,7 +66,7 @@ pub fn combine(m: Masks, other: Masks) -> Masks
     }
 }
 
-// One move alone. A kind above 4 is taken for Reveal, as in the definitions.
+// One move alone. A kind above 4 is taken for Reveal, as in the definitions. Ported, and called by nothing.
 pub fn of_move(kind: u8, card: u8) -> Masks
     requires { ⌜ card < 64 ⌝ }
     ensures { λ r. ⌜ r ≡ oneMove kind card ⌝ }

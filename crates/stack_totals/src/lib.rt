@@ -47,7 +47,7 @@ pub fn is_full(heights: [u8; 4]) -> bool
     all_within(heights, FULL_HEIGHT, FULL_HEIGHT)
 }
 
-// Is every foundation empty?
+// Is every foundation empty? Ported, and called by nothing.
 pub fn is_empty(heights: [u8; 4]) -> bool
     ensures { λ r. ⌜ r ≡ emptyOn heights ⌝ }
 {
@@ -64,7 +64,7 @@ fn weighed(heights: [u8; 4], radix: u32) -> u32
         + radix * (heights[1] as u32 + radix * (heights[2] as u32 + radix * heights[3] as u32))
 }
 
-// How many cards are on the foundations.
+// How many cards are on the foundations. Ported, and called by nothing.
 pub fn len(heights: [u8; 4]) -> u32
     ensures { λ r. ⌜ r ≡ cardsOn heights ⌝ }
 {
