@@ -6,7 +6,7 @@ use native.Mathlib.Omega.{arith}
 use lib.Dec.{ltb, leb}
 use borrow.Author.Tests.{leb-true, ltb-false}
 use Rattle.rules.specs.declared.Cursor.{Cursor}
-use Rattle.rules.specs.declared.Turned.{Turned}
+use Rattle.rules.specs.declared.DealtOnce.{DealtOnce}
 use Rattle.rules.specs.Dealing.{dealt, cursorOf}
 use Rattle.rules.specs.Proper.{stepRight}
 use Rattle.rules.specs.Answers.{_refuses_else_, accepted, cursorRefusal, dealtOnce, dealOnceAnswer}
@@ -20,13 +20,13 @@ pub answer-is : (c : Cursor) → dealOnceAnswer c ≡ record { refusal = cursorR
 unfolding dealOnceAnswer dealtOnce turnedTo
 answer-is c = go (cursorRefusal c)
   where
-    go : (r : ℕ) → accepted {A = Turned} r (record { refusal = 0; cursor = cursorOf (c .len) (c .step) (dealt (c .len) (c .step) (c .offset)) }) (record { refusal = r; cursor = c })
+    go : (r : ℕ) → accepted {A = DealtOnce} r (record { refusal = 0; cursor = cursorOf (c .len) (c .step) (dealt (c .len) (c .step) (c .offset)) }) (record { refusal = r; cursor = c })
         ≡ record { refusal = r; cursor = cursorOf (c .len) (c .step) (accepted r (dealt (c .len) (c .step) (c .offset)) (c .offset)) }
     go zero = refl
     go (suc r) = refl
 
 pub refusal-is : (c : Cursor) → dealOnceAnswer c .refusal ≡ cursorRefusal c
-refusal-is c = ap (λ (t : Turned). t .refusal) (answer-is c)
+refusal-is c = ap (λ (t : DealtOnce). t .refusal) (answer-is c)
 
 pub refused-stays : (c : Cursor) → (cursorRefusal c ≡ 0 → ⊥) → turnedTo c ≡ c .offset
 unfolding turnedTo

@@ -36,12 +36,12 @@ use denote.Triple.Spec.{Meets, tripleOf}
 use denote.Triple.Clauses.{ensured, lasts}
 use denote.Triple.Walked.{says, Stays, stay-ref, walkOf, goes-ref, Walks, ends-at, walked, walk-meets}
 use Rattle.rules.specs.declared.Cursor.{Cursor}
-use Rattle.rules.specs.declared.Turned.{Turned}
+use Rattle.rules.specs.declared.DealtOnce.{DealtOnce}
 use Rattle.rules.specs.Answers.{dealOnceAnswer}
 use Rattle.rules.proofs.Cursor as T
 use Rattle.rules.proofs.Cursor.Laws as T′
-use Rattle.rules.proofs.Turned as U
-use Rattle.rules.proofs.Turned.Laws as U′
+use Rattle.rules.proofs.DealtOnce as U
+use Rattle.rules.proofs.DealtOnce.Laws as U′
 use Rattle.deck_cursor.proofs.Cursors.{refusal-is}
 use Rattle.deck_cursor.proofs.deal_once as deal
 use Rattle.deck_cursor.proofs.deal_once.Symbol.{name as #deck-cursor·deal-once}
@@ -87,18 +87,18 @@ module _ {M : Type 1} (𝓤 : URA M) (H : Heap 𝓤) (A : Atoms 𝓤) (W : Given
       qed W (‵ ftrue ∷ []) ∵ nothing ! $ owned ! T.the-row (Is T.the-row) (LL.makes T.the-type T′.the-plain 𝓤 H A) h _ g $ fjoin ! $ move ! (1 ∷ 0 ∷ []) $ join ! $ frame ! $ done !
 
   -- of the callee's `ensured`, the clause alone
-  said : (r : Turned) → ent 𝓤 (ensured 𝓤 H A deal.ended (deal.clauses 𝓤 H A at-mem run) tt (h, tt) tt r) (fact 𝓤 (r ≡ dealOnceAnswer h))
+  said : (r : DealtOnce) → ent 𝓤 (ensured 𝓤 H A deal.ended (deal.clauses 𝓤 H A at-mem run) tt (h, tt) tt r) (fact 𝓤 (r ≡ dealOnceAnswer h))
   said r = exE 𝓤 _ (λ ws. snd∗ 𝓤 (sem 𝓤 H A (lasts deal.ended tt (h, tt) ws)) (fact 𝓤 (r ≡ dealOnceAnswer h)))
 
-  exits : (r : Turned) (v : Val) → r ≡ dealOnceAnswer h → ent 𝓤 (⋆ 𝓤 H A (‵ (u8 .own (r .refusal) (v ∷ [])) ∷ ‵ (fobs γ (T.the-row .coded .code (r .cursor))) ∷ ‵ (fbor κ (Body (mem (T.the-row)) b o γ)) ∷ ‵ (flft κ q) ∷ [])) (Post v)
+  exits : (r : DealtOnce) (v : Val) → r ≡ dealOnceAnswer h → ent 𝓤 (⋆ 𝓤 H A (‵ (u8 .own (r .refusal) (v ∷ [])) ∷ ‵ (fobs γ (T.the-row .coded .code (r .cursor))) ∷ ‵ (fbor κ (Body (mem (T.the-row)) b o γ)) ∷ ‵ (flft κ q) ∷ [])) (Post v)
   exits r v e =
       qed W (‵ (u8 .own (r .refusal) (v ∷ [])) ∷ ‵ (fobs γ (T.the-row .coded .code (r .cursor))) ∷ ‵ (fbor κ (Body (mem (T.the-row)) b o γ)) ∷ ‵ (flft κ q) ∷ []) ∵
       suffices ! _ (ends-at 𝓤 H A once.ended stayed (once.clauses 𝓤 H A at-mem run) W (((κ, tt), (q, tt), tt, x, at), tt) v (r .refusal) (r .cursor, tt) (tt, tt)) $
-      says ! (ap (λ (t : Turned). t .refusal) e ∙ refusal-is h, ap (λ (t : Turned). t .cursor) e) $
+      says ! (ap (λ (t : DealtOnce). t .refusal) e ∙ refusal-is h, ap (λ (t : DealtOnce). t .cursor) e) $
       nothing ! $ move ! (4 ∷ 0 ∷ []) $ join ! $ frame ! $ move ! (1 ∷ 2 ∷ []) $ feqI ! (List Val) (vptr b o ∷ []) (vptr b o ∷ []) refl $ fjoin3 ! $ nothing ! $ move ! (1 ∷ 0 ∷ []) $ fjoin ! $ done !
 
   -- what whoever holds the answer knows of its parts
-  module _ (r : Turned) (v : Val) (is : Is U.the-row r (v ∷ [])) where
+  module _ (r : DealtOnce) (v : Val) (is : Is U.the-row r (v ∷ [])) where
     number : r .refusal < 2 ^ 8
     number = LL.owed U.the-type U′.the-laws r _ is .0 .1
 
@@ -117,7 +117,7 @@ module _ {M : Type 1} (𝓤 : URA M) (H : Heap 𝓤) (A : Atoms 𝓤) (W : Given
         assigns ! (of-opd ! (load ! (from ! (hop ! (look ! 11 refl) (stop !))) (look-raw ! 0 refl))) (from ! (stop !)) (init ! 7 refl (LL.lawful T.the-type T′.the-laws 𝓤 H A W .typed h _ g .0)) $
         nothing ! $ use1 W (raw (Deal 𝓤 H A at-mem run .pre to-deal)) (goes-deal g) $
         calls-at ! fm (Deal 𝓤 H A at-mem run) known to-deal (and-then ! (load ! (from ! (stop !)) (look ! 8 refl)) (no-more !)) (λ v.
-        use1 W (later (some (λ (r : Turned). (‵ ftrue ⊛ ‵ (U.the-row .own r (v ∷ []))) ⊛ raw (ensured 𝓤 H A deal.ended (deal.clauses 𝓤 H A at-mem run) tt (h, tt) tt r)))) (id⊢ 𝓤 _) $ await ! tt $ pick ! (λ r.
+        use1 W (later (some (λ (r : DealtOnce). (‵ ftrue ⊛ ‵ (U.the-row .own r (v ∷ []))) ⊛ raw (ensured 𝓤 H A deal.ended (deal.clauses 𝓤 H A at-mem run) tt (h, tt) tt r)))) (id⊢ 𝓤 _) $ await ! tt $ pick ! (λ r.
         split ! $ move ! (1 ∷ []) $ use1 W (raw (fact 𝓤 (r ≡ dealOnceAnswer h))) (said r) $ heard ! (r ≡ dealOnceAnswer h) (λ e. split ! $ drop ! $
         peeks ! U.the-row (Is U.the-row) (shows 𝓤 H A U.the-row) r (v ∷ []) (λ is.
         land ! (from ! (stop !)) (init ! 10 refl (LL.lawful U.the-type U′.the-laws 𝓤 H A W .typed r _ is .0)) $

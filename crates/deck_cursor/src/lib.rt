@@ -7,7 +7,7 @@ ghost use Rattle.rules.specs.Answers.{cursorRefusal, dealOnceAnswer};
 ghost use Rattle.rules.specs.Code.{storedOffset};
 use bits::min;
 use rules::Cursor;
-use rules::Turned;
+use rules::DealtOnce;
 
 // A deal turns at most as many cards as the deck has.
 const MAX_STEP: u8 = card::FULL_DECK;
@@ -87,7 +87,7 @@ fn refusal(len: u8, step: u8, cur: u8) -> u8
 }
 
 // A deal on a cursor, which stays where it is refused.
-pub fn deal_once(c: Cursor) -> Turned
+pub fn deal_once(c: Cursor) -> DealtOnce
     ensures { λ r. ⌜ r ≡ dealOnceAnswer c ⌝ }
 {
     let len = c.len;
@@ -98,7 +98,7 @@ pub fn deal_once(c: Cursor) -> Turned
     if no == rules::ACCEPTED {
         to = offset_once(len, step, cur);
     }
-    Turned {
+    DealtOnce {
         refusal: no,
         cursor: Cursor {
             len: len,

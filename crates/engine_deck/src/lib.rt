@@ -44,7 +44,7 @@ pub fn find(p: Position, card: u8) -> Located
     }
     if card > card::LAST_CARD {
         return Located {
-            refusal: rules::NO_MOVE,
+            refusal: rules::NO_SUCH_MOVE,
             position: p,
             found: false,
             place: 0,

@@ -9,7 +9,7 @@ use rules::TurnedUp;
 use rules::Undone;
 
 // A refused move: the given position and count.
-fn no_move(refusal: u8, p: Position, count: usize) -> Moved
+fn refused_move(refusal: u8, p: Position, count: usize) -> Moved
     ensures { λ r. ⌜ r ≡ record { refusal = refusal; position = p; count = count; byte = 0; turned = Nothing } ⌝ }
 {
     Moved {
@@ -26,22 +26,22 @@ pub fn do_move(p: Position, history: &mut [u16], count: usize, kind: u8, card: u
     ensures { λ r. ⌜ (r ≡ moveAnswer p (now (history .entry)) count kind card) × (now (history .exit) ≡ moveHistory p (now (history .entry)) count kind card) ⌝ }
 {
     if !proper::is_proper(p) {
-        return no_move(rules::NOT_PROPER, p, count);
+        return refused_move(rules::NOT_PROPER, p, count);
     }
     if history.len() < count {
-        return no_move(rules::WRONG_COUNT, p, count);
+        return refused_move(rules::WRONG_COUNT, p, count);
     }
     if kind > moves::LAST_KIND {
-        return no_move(rules::NO_MOVE, p, count);
+        return refused_move(rules::NO_SUCH_MOVE, p, count);
     }
     if card > card::LAST_CARD {
-        return no_move(rules::NO_MOVE, p, count);
+        return refused_move(rules::NO_SUCH_MOVE, p, count);
     }
     if !legal::is_valid_move(p, kind, card) {
-        return no_move(rules::NOT_LEGAL, p, count);
+        return refused_move(rules::NOT_LEGAL, p, count);
     }
     if count == history.len() {
-        return no_move(rules::HISTORY_FULL, p, count);
+        return refused_move(rules::HISTORY_FULL, p, count);
     }
     let next = count + 1;
     let made = play::do_move(p, kind, card);
@@ -57,7 +57,7 @@ pub fn do_move(p: Position, history: &mut [u16], count: usize, kind: u8, card: u
     }
 }
 
-fn no_undo(refusal: u8, p: Position, count: usize) -> Undone
+fn refused_undo(refusal: u8, p: Position, count: usize) -> Undone
     ensures { λ r. ⌜ r ≡ record { refusal = refusal; position = p; count = count } ⌝ }
 {
     Undone {
@@ -72,17 +72,17 @@ pub fn undo_move(p: Position, history: &[u16], count: usize) -> Undone
     ensures { λ r. ⌜ r ≡ undoAnswer p (now (history .entry)) count ⌝ }
 {
     if !proper::is_proper(p) {
-        return no_undo(rules::NOT_PROPER, p, count);
+        return refused_undo(rules::NOT_PROPER, p, count);
     }
     if history.len() < count {
-        return no_undo(rules::WRONG_COUNT, p, count);
+        return refused_undo(rules::WRONG_COUNT, p, count);
     }
     if count == 0 {
-        return no_undo(rules::NOTHING_TO_UNDO, p, count);
+        return refused_undo(rules::NOTHING_TO_UNDO, p, count);
     }
     let back = play::undo(p, history[count - 1]);
     if !back.possible {
-        return no_undo(rules::WRONG_ENTRY, p, count);
+        return refused_undo(rules::WRONG_ENTRY, p, count);
     }
     let before = back.position;
     Undone {

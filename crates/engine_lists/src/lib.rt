@@ -56,14 +56,14 @@ pub fn test(p: Position, kind: u8, card: u8) -> Told
     }
     if kind > moves::LAST_KIND {
         return Told {
-            refusal: rules::NO_MOVE,
+            refusal: rules::NO_SUCH_MOVE,
             position: p,
             yes: false,
         };
     }
     if card > card::LAST_CARD {
         return Told {
-            refusal: rules::NO_MOVE,
+            refusal: rules::NO_SUCH_MOVE,
             position: p,
             yes: false,
         };

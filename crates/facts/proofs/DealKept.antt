@@ -11,7 +11,7 @@ use borrow.Author.Tests.{ltb-true}
 use Rattle.rules.specs.declared.Position.{Position}
 use Rattle.rules.specs.Bits.{anyOf, firstOf}
 use Rattle.rules.specs.Places.{pileStart, cardAt, pileCard, count, hasHead, head, isHead, pileOf}
-use Rattle.rules.specs.Play.{withDeck, raised, lowered, shown, hidden, drawn, turned, after}
+use Rattle.rules.specs.Play.{withDeck, raised, lowered, laid, lifted, drawn, uncovered, after}
 use Rattle.rules.specs.Fields.{withVisible, withHeights, withCounts}
 use Rattle.bits.proofs.Searches.{and-left, and-right, any-yes, yes-any, first-least}
 use Rattle.rules.proofs.ProperLaw.{Fits}
@@ -19,18 +19,18 @@ use Rattle.rules.proofs.UndoLaw.{same-either}
 use Rattle.rules.specs.Hidden.{dealtTo, headIn}
 
 -- a move keeps the deal
-turned-deal : (p : Position) (i : ℕ) → turned p i .deal ≡ p .deal
-unfolding turned shown
-turned-deal p i = same-either (λ q. q .deal) (ltb 1 (count p i)) _ _ p refl refl
+uncovered-deal : (p : Position) (i : ℕ) → uncovered p i .deal ≡ p .deal
+unfolding uncovered laid
+uncovered-deal p i = same-either (λ q. q .deal) (ltb 1 (count p i)) _ _ p refl refl
 
 pub after-deal : (p : Position) (kind c : ℕ) → after p kind c .deal ≡ p .deal
-unfolding after drawn lowered raised shown hidden
+unfolding after drawn lowered raised laid lifted
 after-deal p zero c = refl
 after-deal p (suc zero) c =
-    same-either (λ q. q .deal) (isHead p c) (turned (hidden (raised p c) c) (pileOf p c)) (hidden (raised p c) c) p (turned-deal (hidden (raised p c) c) (pileOf p c)) refl
+    same-either (λ q. q .deal) (isHead p c) (uncovered (lifted (raised p c) c) (pileOf p c)) (lifted (raised p c) c) p (uncovered-deal (lifted (raised p c) c) (pileOf p c)) refl
 after-deal p (suc (suc zero)) c = refl
 after-deal p (suc (suc (suc zero))) c = refl
-after-deal p (suc (suc (suc (suc n)))) c = turned-deal p (pileOf p c)
+after-deal p (suc (suc (suc (suc n)))) c = uncovered-deal p (pileOf p c)
 
 -- the pile that a card was dealt to
 pub pileOf-deal : (p q : Position) → p .deal ≡ q .deal → (c : ℕ) → pileOf p c ≡ pileOf q c

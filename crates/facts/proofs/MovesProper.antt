@@ -12,7 +12,7 @@ use Rattle.rules.specs.Places.{count, isHead, isBuried, isVisible, inDeck, onFo
 use Rattle.rules.specs.Proper.{dealRight, deckRight, proper, Shaped}
 use Rattle.rules.specs.Dealing.{available}
 use Rattle.rules.specs.Legal.{isOpen, hasRoom, isNext, isTop, pileStackLegal, deckStackLegal, deckPileLegal, stackPileLegal, revealLegal, legal}
-use Rattle.rules.specs.Play.{withDeck, raised, lowered, shown, hidden, drawn, turned, after}
+use Rattle.rules.specs.Play.{withDeck, raised, lowered, laid, lifted, drawn, uncovered, after}
 use Rattle.rules.specs.Fields.{withVisible, withHeights}
 use Rattle.rules.specs.History.{isKindAndCard}
 use Rattle.rules.specs.Demands.{MovesKeepProper}
@@ -23,15 +23,15 @@ use Rattle.rules.proofs.Facts.{Facts, sets, facts, is-proper}
 use Rattle.rules.proofs.Placed.{HeadOf}
 use Rattle.facts.proofs.Foundation.{top-there}
 use Rattle.facts.proofs.Deck.{available-in, drawn-right}
-use Rattle.facts.proofs.Turned.{isUnder, heads-turned}
-use Rattle.facts.proofs.TurnedFields.{turned-stays, under-buried}
+use Rattle.facts.proofs.Turned.{isUnder, heads-uncovered}
+use Rattle.facts.proofs.TurnedFields.{uncovered-stays, under-buried}
 use Rattle.facts.proofs.Untouched.{deck-same, order-same, deal-same, heads-same}
-use Rattle.facts.proofs.Ranges.{raised-numbers, lowered-numbers, shown-numbers, hidden-numbers, drawn-numbers, turned-numbers}
+use Rattle.facts.proofs.Ranges.{raised-numbers, lowered-numbers, laid-numbers, lifted-numbers, drawn-numbers, uncovered-numbers}
 use Rattle.facts.proofs.PairRule.{seenNoHead, Once, Ruled, room-means, still-keeps, put-keeps, take-keeps}
 use Rattle.facts.proofs.Allowed.{card-ok}
 use Rattle.facts.proofs.Shapes.{after-shape}
 use Rattle.facts.proofs.CardTables.{goes, put-free, reveal-free, take-free, turn-free, more-seen, less-seen, up-more, up-less, up-turn, up-reveal}
-use Rattle.facts.proofs.Effects.{Tests, sets-are, plain, deckStack-does, deckPile-does, stackPile-does, pileStack-does, from, gone, turned-does}
+use Rattle.facts.proofs.Effects.{Tests, sets-are, plain, deckStack-does, deckPile-does, stackPile-does, pileStack-does, from, gone, uncovered-does}
 
 -- free, by the tests of q
 free-now : {q : Position} {F D B S H : ℕ → Bool} → Tests q F D B S H → (x : ℕ) → x < 52 → num (seenNoHead q x) ≡ num (S x && not (H x))
@@ -99,37 +99,37 @@ module _ (p : Position) (s : Shaped p) (f : Facts p) (c : ℕ) (lc : c < 52) whe
       has : inDeck r c ≡ true
       has = deck-same p r refl refl c ∙ available-in p c a
 
-  pub deckPile-proper : available p c ≡ true → hasRoom p c ≡ true → proper (drawn (shown p c) c) ≡ true
-  unfolding drawn shown
+  pub deckPile-proper : available p c ≡ true → hasRoom p c ≡ true → proper (drawn (laid p c) c) ≡ true
+  unfolding drawn laid
   deckPile-proper a m =
-      let q : Position = drawn (shown p c) c in
-      let has : inDeck (shown p c) c ≡ true = deck-same p (shown p c) refl refl c ∙ available-in p c a in
-      put-made q (deal-same p q refl ∙ f .deal) (drawn-numbers (shown p c) c lc (shown-numbers p c lc n) (s .deck) has)
-      (drawn-right (shown p c) c (s .deck) (n .left) has (order-same p (shown p c) refl refl refl ∙ f .order)) (deckPile-does p s f c lc a)
+      let q : Position = drawn (laid p c) c in
+      let has : inDeck (laid p c) c ≡ true = deck-same p (laid p c) refl refl c ∙ available-in p c a in
+      put-made q (deal-same p q refl ∙ f .deal) (drawn-numbers (laid p c) c lc (laid-numbers p c lc n) (s .deck) has)
+      (drawn-right (laid p c) c (s .deck) (n .left) has (order-same p (laid p c) refl refl refl ∙ f .order)) (deckPile-does p s f c lc a)
       (λ x l. omega (arith, goes (inDeck p x) (isVisible p x) (eqb x c) (B x + F x) (omega (arith, once x l)) (at-card (inDeck p) c (available-in p c a) x)))
       refl m
 
-  pub stackPile-proper : isTop p c ≡ true → hasRoom p c ≡ true → proper (shown (lowered p c) c) ≡ true
-  unfolding shown lowered
+  pub stackPile-proper : isTop p c ≡ true → hasRoom p c ≡ true → proper (laid (lowered p c) c) ≡ true
+  unfolding laid lowered
   stackPile-proper e m =
-      let q : Position = shown (lowered p c) c in
-      put-made q (deal-same p q refl ∙ f .deal) (shown-numbers (lowered p c) c lc (lowered-numbers p c lc n (s .heights) e)) (order-same p q refl refl refl ∙ f .order) (stackPile-does p s f c lc e)
+      let q : Position = laid (lowered p c) c in
+      put-made q (deal-same p q refl ∙ f .deal) (laid-numbers (lowered p c) c lc (lowered-numbers p c lc n (s .heights) e)) (order-same p q refl refl refl ∙ f .order) (stackPile-does p s f c lc e)
       (λ x l. omega (arith, goes (onFoundation p x) (isVisible p x) (eqb x c) (B x + D x) (omega (arith, once x l)) (at-card (onFoundation p) c (top-there p c e) x)))
       refl m
 
   -- c goes up from the piles
   module _ (v : isVisible p c ≡ true) (w : isOpen p (pair c) ≡ true) (e : isNext p c ≡ true) where
     abbrev up : Position
-    up = hidden (raised p c) c
+    up = lifted (raised p c) c
 
     up-numbers : Numbers up
-    up-numbers = hidden-numbers (raised p c) c lc (raised-numbers p c lc n (s .heights) e)
+    up-numbers = lifted-numbers (raised p c) c lc (raised-numbers p c lc n (s .heights) e)
 
     up-once : (x : ℕ) → x < 52 → num (isVisible p x && not (eqb x c)) + num (onFoundation p x || eqb x c) + (B x + D x) ≡ 1
     up-once x l = goes (isVisible p x) (onFoundation p x) (eqb x c) (B x + D x) (omega (arith, once x l)) (at-card (isVisible p) c v x)
 
     pub pileStack-proper : isHead p c ≡ false → proper up ≡ true
-    unfolding hidden raised seenNoHead pair
+    unfolding lifted raised seenNoHead pair
     pileStack-proper h =
         made up (deal-same p up refl ∙ f .deal) up-numbers (order-same p up refl refl refl ∙ f .order) t (λ x l. omega (arith, up-once x l))
         (λ x l. up-less (isHead p x) (isVisible p x) (eqb x c) (f .up x) (λ y. ap (isHead p) (eqb-true x c y) ∙ h))
@@ -140,11 +140,11 @@ module _ (p : Position) (s : Shaped p) (f : Facts p) (c : ℕ) (lc : c < 52) whe
         t : Tests up (λ x. onFoundation p x || eqb x c) (inDeck p) (isBuried p) (λ x. isVisible p x && not (eqb x c)) (isHead p)
         t = pileStack-does p s f c lc e
 
-    pub pileStackHead-proper : isHead p c ≡ true → proper (turned up (pileOf p c)) ≡ true
-    unfolding hidden raised seenNoHead pair
+    pub pileStackHead-proper : isHead p c ≡ true → proper (uncovered up (pileOf p c)) ≡ true
+    unfolding lifted raised seenNoHead pair
     pileStackHead-proper h =
-        made q (deal-same up q (turned-stays up i .deal) ∙ deal-same p up refl ∙ f .deal) (turned-numbers up i up-numbers (deal-same p up refl ∙ f .deal) (s .counts) (k .isPile) (k .some))
-        (order-same up q (turned-stays up i .deal) (turned-stays up i .deck) (turned-stays up i .left) ∙ order-same p up refl refl refl ∙ f .order) t
+        made q (deal-same up q (uncovered-stays up i .deal) ∙ deal-same p up refl ∙ f .deal) (uncovered-numbers up i up-numbers (deal-same p up refl ∙ f .deal) (s .counts) (k .isPile) (k .some))
+        (order-same up q (uncovered-stays up i .deal) (uncovered-stays up i .deck) (uncovered-stays up i .left) ∙ order-same p up refl refl refl ∙ f .order) t
         (λ x l.
         omega (
           arith,
@@ -153,41 +153,41 @@ module _ (p : Position) (s : Shaped p) (f : Facts p) (c : ℕ) (lc : c < 52) whe
         (λ x l. up-turn (isHead p x) (isVisible p x) (eqb x c) (isUnder p i x) (f .up x))
         (λ o.
         take-keeps p q f o c (λ x l. omega (arith, free-now t x l, turn-free (isVisible p x) (isHead p x) (eqb x c) (isUnder p i x))) (λ x l. omega (arith, ap num (t .seen x l), less-seen (isVisible p x) (eqb x c) (isUnder p i x)))
-        (heads-turned p q i (f .deal) (n .counts) (k .isPile) (k .some) (gone p s f c lc up refl refl h)) w)
+        (heads-uncovered p q i (f .deal) (n .counts) (k .isPile) (k .some) (gone p s f c lc up refl refl h)) w)
       where
         i : ℕ
         i = pileOf p c
 
         q : Position
-        q = turned up i
+        q = uncovered up i
 
         k : HeadOf p (f .deal) (n .counts) c
         k = from p s f c lc up refl refl h
 
         t : Tests q (λ x. onFoundation p x || eqb x c) (inDeck p) (λ x. isBuried p x && not (isUnder p i x)) (λ x. (isVisible p x && not (eqb x c)) || isUnder p i x) (λ x. (isHead p x && not (eqb x c)) || isUnder p i x)
-        t = turned-does p s f c lc up refl refl h (pileStack-does p s f c lc e)
+        t = uncovered-does p s f c lc up refl refl h (pileStack-does p s f c lc e)
 
-  pub reveal-proper : isHead p c ≡ true → hasRoom p c ≡ true → proper (turned p (pileOf p c)) ≡ true
+  pub reveal-proper : isHead p c ≡ true → hasRoom p c ≡ true → proper (uncovered p (pileOf p c)) ≡ true
   unfolding seenNoHead
   reveal-proper h m =
-      made q (deal-same p q (turned-stays p i .deal) ∙ f .deal) (turned-numbers p i n (f .deal) (s .counts) (k .isPile) (k .some)) (order-same p q (turned-stays p i .deal) (turned-stays p i .deck) (turned-stays p i .left) ∙ f .order) t
+      made q (deal-same p q (uncovered-stays p i .deal) ∙ f .deal) (uncovered-numbers p i n (f .deal) (s .counts) (k .isPile) (k .some)) (order-same p q (uncovered-stays p i .deal) (uncovered-stays p i .deck) (uncovered-stays p i .left) ∙ f .order) t
       (λ x l. omega (arith, goes (isBuried p x) (isVisible p x) (isUnder p i x) (F x + D x) (omega (arith, once x l)) (under-buried p i (f .deal) (n .counts) (k .isPile) x)))
       (λ x l. up-reveal (isHead p x) (isVisible p x) (eqb x c) (isUnder p i x) (f .up x))
       (λ o.
       put-keeps p q f o c (λ x l. omega (arith, free-now t x l, reveal-free (isVisible p x) (isHead p x) (eqb x c) (isUnder p i x))) (λ x l. omega (arith, ap num (t .seen x l), more-seen (isVisible p x) (isUnder p i x)))
-      (heads-turned p q i (f .deal) (n .counts) (k .isPile) (k .some) (gone p s f c lc p refl refl h)) (room-means p f c m))
+      (heads-uncovered p q i (f .deal) (n .counts) (k .isPile) (k .some) (gone p s f c lc p refl refl h)) (room-means p f c m))
     where
       i : ℕ
       i = pileOf p c
 
       q : Position
-      q = turned p i
+      q = uncovered p i
 
       k : HeadOf p (f .deal) (n .counts) c
       k = from p s f c lc p refl refl h
 
       t : Tests q (onFoundation p) (inDeck p) (λ x. isBuried p x && not (isUnder p i x)) (λ x. isVisible p x || isUnder p i x) (λ x. (isHead p x && not (eqb x c)) || isUnder p i x)
-      t = turned-does p s f c lc p refl refl h (plain p s f c lc)
+      t = uncovered-does p s f c lc p refl refl h (plain p s f c lc)
 
   -- the five kinds together
   pub after-proper : (kind : ℕ) → legal p kind c ≡ true → proper (after p kind c) ≡ true
@@ -201,7 +201,7 @@ module _ (p : Position) (s : Shaped p) (f : Facts p) (c : ℕ) (lc : c < 52) whe
       next : isNext p c ≡ true
       next = and-right (isVisible p c && isOpen p (pair c)) (isNext p c) e
 
-      go : (b : Bool) → isHead p c ≡ b → proper (cond b (turned (hidden (raised p c) c) (pileOf p c)) (hidden (raised p c) c)) ≡ true
+      go : (b : Bool) → isHead p c ≡ b → proper (cond b (uncovered (lifted (raised p c) c) (pileOf p c)) (lifted (raised p c) c)) ≡ true
       go true h = pileStackHead-proper (and-left (isVisible p c) (isOpen p (pair c)) vo) (and-right (isVisible p c) (isOpen p (pair c)) vo) next h
       go false h = pileStack-proper (and-left (isVisible p c) (isOpen p (pair c)) vo) (and-right (isVisible p c) (isOpen p (pair c)) vo) next h
   after-proper (suc (suc zero)) e = deckPile-proper (and-left (available p c) (hasRoom p c) e) (and-right (available p c) (hasRoom p c) e)

@@ -11,11 +11,11 @@ use Rattle.rules.specs.declared.Position.{Position}
 use Rattle.rules.specs.Bits.{sameList}
 use Rattle.rules.specs.Fields.{withDeal, withStep, withCounts, withHeights, withSlots, withOffset, withVisible}
 use Rattle.rules.specs.Places.{count}
-use Rattle.rules.specs.Play.{turned, turnedBack}
+use Rattle.rules.specs.Play.{uncovered, covered}
 use Rattle.rules.specs.History.{sameDeck, sameInDeal, samePosition}
 use Rattle.rules.proofs.SameList.{same-list, list-same}
 use Rattle.facts.proofs.Deck.{deckList}
-use Rattle.facts.proofs.TurnedFields.{turned-stays}
+use Rattle.facts.proofs.TurnedFields.{uncovered-stays}
 use Rattle.facts.proofs.TurnedBack.{back-stays}
 
 -- the position without its spare slots
@@ -104,15 +104,15 @@ played p q = withVisible (withOffset (withSlots (withHeights (withCounts p (q .c
 pub made-of : (p q r : Position) → q ≡ r → r ≡ played p r → q ≡ played p q
 made-of p q r e h = subst (λ (x : Position). x ≡ played p x) (sym e) h
 
-pub turned-made : (p q : Position) (i : ℕ) → q ≡ played p q → turned q i ≡ played p (turned q i)
-turned-made p q i h =
-    made-of p (turned q i) _
-    (turned-stays q i .whole ∙ ap (λ (x : Position). withVisible (withCounts x (set (q .counts) i (count q i - 1))) (turned q i .visible)) h) refl
+pub uncovered-made : (p q : Position) (i : ℕ) → q ≡ played p q → uncovered q i ≡ played p (uncovered q i)
+uncovered-made p q i h =
+    made-of p (uncovered q i) _
+    (uncovered-stays q i .whole ∙ ap (λ (x : Position). withVisible (withCounts x (set (q .counts) i (count q i - 1))) (uncovered q i .visible)) h) refl
 
-pub back-made : (p q : Position) (i : ℕ) → q ≡ played p q → turnedBack q i ≡ played p (turnedBack q i)
-back-made p q i h =
-    made-of p (turnedBack q i) _
-    (back-stays q i .whole ∙ ap (λ (x : Position). withVisible (withCounts x (set (q .counts) i (count q i + 1))) (turnedBack q i .visible)) h) refl
+pub covered-made : (p q : Position) (i : ℕ) → q ≡ played p q → covered q i ≡ played p (covered q i)
+covered-made p q i h =
+    made-of p (covered q i) _
+    (back-stays q i .whole ∙ ap (λ (x : Position). withVisible (withCounts x (set (q .counts) i (count q i + 1))) (covered q i .visible)) h) refl
 
 -- such a position is p, spare slots apart, where those parts are p's
 pub tidy-path : (p q : Position) → q ≡ played p q → q .counts ≡ p .counts → q .heights ≡ p .heights → deckList q ≡ deckList p → q .left ≡ p .left

@@ -155,19 +155,19 @@ module _ (p q : Position) (i : ℕ) (d : dealRight p ≡ true) (n : Fits p) (hi 
             (λ m hm e. not-stock p d i m (u .place) hi hm (u .inside) (sym e)))
 
   -- the head is one no more, and the card under it is one
-  pub head-turned : (x : ℕ) → x < 52 → isHead q x ≡ ((isHead p x && not (eqb x (pileCard p i (count p i - 1)))) || isUnder p i x)
+  pub head-uncovered : (x : ℕ) → x < 52 → isHead q x ≡ ((isHead p x && not (eqb x (pileCard p i (count p i - 1)))) || isUnder p i x)
   unfolding last-of loses
-  head-turned = at-card isHead last-of loses head-at stock-head last-less (λ a. or-false (a && true) ∙ and-true a)
+  head-uncovered = at-card isHead last-of loses head-at stock-head last-less (λ a. or-false (a && true) ∙ and-true a)
 
   -- the card under the head is buried no more
-  pub buried-turned : (x : ℕ) → x < 52 → isBuried q x ≡ (isBuried p x && not (isUnder p i x))
+  pub buried-uncovered : (x : ℕ) → x < 52 → isBuried q x ≡ (isBuried p x && not (isUnder p i x))
   unfolding before-last rises
-  buried-turned = at-card isBuried before-last rises buried-at stock-buried before-less and-true
+  buried-uncovered = at-card isBuried before-last rises buried-at stock-buried before-less and-true
 
   -- there are as many heads, or one less
-  pub heads-turned : headCount q ≤ headCount p
+  pub heads-uncovered : headCount q ≤ headCount p
   unfolding headCount countOf
-  heads-turned = fewer-of 7 (hasHead q) (hasHead p) at
+  heads-uncovered = fewer-of 7 (hasHead q) (hasHead p) at
     where
       fewer-of : (m : ℕ) (a b : ℕ → Bool) → ((j : ℕ) → j < m → num (a j) ≤ num (b j)) → countOf m a ≤ countOf m b
       fewer-of zero a b h = zero-le

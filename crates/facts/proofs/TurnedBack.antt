@@ -11,14 +11,14 @@ use borrow.Author.Tests.{lt-ltb, le-ltb, ltb-true, ltb-false}
 use Rattle.rules.specs.declared.Position.{Position}
 use Rattle.rules.specs.Bits.{without}
 use Rattle.rules.specs.Places.{pileStart, pileCard, cardAt, count, isVisible}
-use Rattle.rules.specs.Play.{hidden, turnedBack}
+use Rattle.rules.specs.Play.{lifted, covered}
 use Rattle.rules.specs.Fields.{withCounts}
-use Rattle.facts.proofs.Shows.{hidden-has, hidden-low}
+use Rattle.facts.proofs.Shows.{lifted-has, lifted-low}
 use Rattle.facts.proofs.Turned.{Fewer, isUnder}
 use Rattle.facts.proofs.TurnedFields.{Stays, recounted}
 
-pub back-stays : (p : Position) (i : ℕ) → Stays p (turnedBack p i) (set (p .counts) i (count p i + 1))
-unfolding turnedBack hidden
+pub back-stays : (p : Position) (i : ℕ) → Stays p (covered p i) (set (p .counts) i (count p i + 1))
+unfolding covered lifted
 back-stays p i =
     recounted p (set (p .counts) i (count p i + 1)) (without (withCounts p (set (p .counts) i (count p i + 1)) .visible) (pileCard p i (count p i - 1))) (ltb 0 (count p i))
 
@@ -26,26 +26,26 @@ back-stays p i =
 unfoldable pub headAt : Position → ℕ → ℕ → Bool
 headAt p i x = ltb 0 (count p i) && eqb x (pileCard p i (count p i - 1))
 
-pub back-has : (p : Position) (i x : ℕ) → x < 52 → isVisible (turnedBack p i) x ≡ (isVisible p x && not (headAt p i x))
-unfolding turnedBack headAt isVisible
+pub back-has : (p : Position) (i x : ℕ) → x < 52 → isVisible (covered p i) x ≡ (isVisible p x && not (headAt p i x))
+unfolding covered headAt isVisible
 back-has p i x l = go (ltb 0 (count p i))
   where
     m : Position
     m = withCounts p (set (p .counts) i (count p i + 1))
 
-    go : (b : Bool) → isVisible (cond b (hidden m (pileCard p i (count p i - 1))) m) x ≡ (isVisible p x && not (b && eqb x (pileCard p i (count p i - 1))))
-    go true = hidden-has m (pileCard p i (count p i - 1)) x l
+    go : (b : Bool) → isVisible (cond b (lifted m (pileCard p i (count p i - 1))) m) x ≡ (isVisible p x && not (b && eqb x (pileCard p i (count p i - 1))))
+    go true = lifted-has m (pileCard p i (count p i - 1)) x l
     go false = sym (and-true (isVisible p x))
 
-pub back-low : (p : Position) (i : ℕ) → p .visible < 2 ^ 52 → turnedBack p i .visible < 2 ^ 52
-unfolding turnedBack
+pub back-low : (p : Position) (i : ℕ) → p .visible < 2 ^ 52 → covered p i .visible < 2 ^ 52
+unfolding covered
 back-low p i v = go (ltb 0 (count p i))
   where
     m : Position
     m = withCounts p (set (p .counts) i (count p i + 1))
 
-    go : (b : Bool) → cond b (hidden m (pileCard p i (count p i - 1))) m .visible < 2 ^ 52
-    go true = hidden-low m (pileCard p i (count p i - 1)) v
+    go : (b : Bool) → cond b (lifted m (pileCard p i (count p i - 1))) m .visible < 2 ^ 52
+    go true = lifted-low m (pileCard p i (count p i - 1)) v
     go false = v
 
 -- the head that a pile has once its own is gone is the card that was under it

@@ -11,12 +11,12 @@ use Rattle.rules.specs.declared.Position.{Position}
 use Rattle.rules.specs.Bits.{with}
 use Rattle.rules.specs.Places.{pileCard, count, isVisible, isBuried}
 use Rattle.rules.specs.Proper.{dealRight}
-use Rattle.rules.specs.Play.{shown, turned}
+use Rattle.rules.specs.Play.{laid, uncovered}
 use Rattle.rules.specs.Fields.{withVisible, withCounts}
 use Rattle.bits.proofs.Searches.{and-left, and-right}
 use borrow.Author.Tests.{eqb-true, lt-ltb, ltb-true}
 use Rattle.rules.proofs.Placed.{pile-card-low, buried-at}
-use Rattle.facts.proofs.Shows.{shown-has, shown-low}
+use Rattle.facts.proofs.Shows.{laid-has, laid-low}
 use Rattle.facts.proofs.Turned.{Fits, Fewer, isUnder}
 
 -- q is p but for its mask and its counts, which are n
@@ -35,40 +35,40 @@ pub recounted : (p : Position) (n : List ℕ) (v : ℕ) (b : Bool) → Stays p (
 recounted p n v true = record { whole = refl; deal = refl; step = refl; counts = refl; heights = refl; deck = refl; left = refl; offset = refl }
 recounted p n v false = record { whole = refl; deal = refl; step = refl; counts = refl; heights = refl; deck = refl; left = refl; offset = refl }
 
-pub turned-stays : (p : Position) (i : ℕ) → Stays p (turned p i) (set (p .counts) i (count p i - 1))
-unfolding turned shown
-turned-stays p i =
+pub uncovered-stays : (p : Position) (i : ℕ) → Stays p (uncovered p i) (set (p .counts) i (count p i - 1))
+unfolding uncovered laid
+uncovered-stays p i =
     recounted p (set (p .counts) i (count p i - 1)) (with (withCounts p (set (p .counts) i (count p i - 1)) .visible) (pileCard p i (count p i - 2))) (ltb 1 (count p i))
 
-pub turned-fewer : (p : Position) (i : ℕ) → i < 7 → length (p .counts) ≡ 7 → Fewer p (turned p i) i
-turned-fewer p i l e =
+pub uncovered-fewer : (p : Position) (i : ℕ) → i < 7 → length (p .counts) ≡ 7 → Fewer p (uncovered p i) i
+uncovered-fewer p i l e =
     record {
-      deal = turned-stays p i .deal;
-      here = ap (λ (n : List ℕ). getD n i 0) (turned-stays p i .counts) ∙ getD-set-same (p .counts) i (count p i - 1) 0 (omega arith);
-      there = λ j h. ap (λ (n : List ℕ). getD n j 0) (turned-stays p i .counts) ∙ getD-set-other (p .counts) i j (count p i - 1) 0 h;
+      deal = uncovered-stays p i .deal;
+      here = ap (λ (n : List ℕ). getD n i 0) (uncovered-stays p i .counts) ∙ getD-set-same (p .counts) i (count p i - 1) 0 (omega arith);
+      there = λ j h. ap (λ (n : List ℕ). getD n j 0) (uncovered-stays p i .counts) ∙ getD-set-other (p .counts) i j (count p i - 1) 0 h;
     }
 
 -- the card under the head shows
-pub turned-has : (p : Position) (i x : ℕ) → x < 52 → isVisible (turned p i) x ≡ (isVisible p x || isUnder p i x)
-unfolding turned isUnder isVisible
-turned-has p i x l = go (ltb 1 (count p i))
+pub uncovered-has : (p : Position) (i x : ℕ) → x < 52 → isVisible (uncovered p i) x ≡ (isVisible p x || isUnder p i x)
+unfolding uncovered isUnder isVisible
+uncovered-has p i x l = go (ltb 1 (count p i))
   where
     m : Position
     m = withCounts p (set (p .counts) i (count p i - 1))
 
-    go : (b : Bool) → isVisible (cond b (shown m (pileCard p i (count p i - 2))) m) x ≡ (isVisible p x || (b && eqb x (pileCard p i (count p i - 2))))
-    go true = shown-has m (pileCard p i (count p i - 2)) x l
+    go : (b : Bool) → isVisible (cond b (laid m (pileCard p i (count p i - 2))) m) x ≡ (isVisible p x || (b && eqb x (pileCard p i (count p i - 2))))
+    go true = laid-has m (pileCard p i (count p i - 2)) x l
     go false = sym (or-false (isVisible p x))
 
-pub turned-low : (p : Position) (i : ℕ) → dealRight p ≡ true → Fits p → i < 7 → p .visible < 2 ^ 52 → turned p i .visible < 2 ^ 52
-unfolding turned
-turned-low p i d n l v = go (ltb 1 (count p i))
+pub uncovered-low : (p : Position) (i : ℕ) → dealRight p ≡ true → Fits p → i < 7 → p .visible < 2 ^ 52 → uncovered p i .visible < 2 ^ 52
+unfolding uncovered
+uncovered-low p i d n l v = go (ltb 1 (count p i))
   where
     m : Position
     m = withCounts p (set (p .counts) i (count p i - 1))
 
-    go : (b : Bool) → cond b (shown m (pileCard p i (count p i - 2))) m .visible < 2 ^ 52
-    go true = shown-low m (pileCard p i (count p i - 2)) v (pile-card-low p d i (count p i - 2) l (omega (arith, n i l)))
+    go : (b : Bool) → cond b (laid m (pileCard p i (count p i - 2))) m .visible < 2 ^ 52
+    go true = laid-low m (pileCard p i (count p i - 2)) v (pile-card-low p d i (count p i - 2) l (omega (arith, n i l)))
     go false = v
 
 -- the card under the head was buried

@@ -12,7 +12,7 @@ use borrow.Author.Tests.{ltb-true, leb-true, lt-ltb, le-leb}
 use Rattle.bits.proofs.Tables.{same-test}
 use Rattle.rules.specs.declared.TurnedUp.the-variants.{Emptied, Card}
 use Rattle.rules.specs.Hidden.{CountsFit, placed, headOf, bareOf}
-use Rattle.hidden.specs.Places.{hasPlace, standsAt, lastOf}
+use Rattle.hidden.specs.PilePlace.{hasPlace, standsAt, lastOf}
 use Rattle.bits.proofs.Searches.{and-left, and-right, and-both}
 
 -- d has x at the place k, which the code reads as j; b says that the pile has such a place

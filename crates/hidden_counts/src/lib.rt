@@ -55,17 +55,17 @@ pub fn encode(counts: &[u8; 7]) -> u16
 }
 
 // The counts that a pile field stands for, or seven times 0 where it stands for none: a field is never taken modulo a radix.
-pub struct Decoded {
+pub struct DecodedPiles {
     pub fits: bool,
     pub counts: [u8; 7],
 }
 
-pub fn decode(field: u16) -> Decoded
+pub fn decode(field: u16) -> DecodedPiles
     ensures { λ r. ⌜ (r .fits ≡ ltb field pileCodes) × (r .counts ≡ cond (ltb field pileCodes) (table 7 (λ i. fieldCount field i)) (replicate 7 0)) ⌝ }
 {
     let mut counts = [0u8; 7];
     if field >= N_CODES {
-        return Decoded {
+        return DecodedPiles {
             fits: false,
             counts: counts,
         };
@@ -78,7 +78,7 @@ pub fn decode(field: u16) -> Decoded
         rest /= n_options;
         i += 1;
     }
-    Decoded {
+    DecodedPiles {
         fits: true,
         counts: counts,
     }

@@ -6,7 +6,7 @@ use native.Mathlib.Omega.{arith}
 use Rattle.rules.specs.declared.Started.{Started}
 use Rattle.rules.specs.declared.Moved.{Moved}
 use Rattle.rules.specs.declared.Undone.{Undone}
-use Rattle.rules.specs.declared.Turned.{Turned}
+use Rattle.rules.specs.declared.DealtOnce.{DealtOnce}
 use Rattle.rules.specs.Answers.{accepted, dealAnswer, resumeAnswer, saveAnswer, masksAnswer, told, winAnswer, sureWinAnswer, ladderAnswer, testAnswer, listingAnswer, listingFront, listingInto, pilesAnswer, pilesBuffer, moveAnswer, moveHistory, undoAnswer, findAnswer, offsetAnswer, heightsAnswer, deckAnswer, dealOnceAnswer, dealRefusal, resumeRefusal, moveRefusal, undoRefusal, cursorRefusal}
 use Rattle.panel.specs.Calls.{Input, deal, resume, save, masks, test, listInto, list, listCount, move, undo, win, sureWin, ladder, heights, deck, find, offset, faceUp, dealOnce, dealOnceLent, answer, lent}
 use Rattle.panel.specs.Firm.{refusalOf, refused, given, TellsRefusal, RefusedKeeps}
@@ -41,7 +41,7 @@ tells-refusal (deck p) = refl
 tells-refusal (find p card) = refl
 tells-refusal (offset p n) = refl
 tells-refusal (faceUp p buffer) = refl
-tells-refusal (dealOnce c) = number (λ (a : Turned). a .refusal) (cursorRefusal c) _ _ refl refl
+tells-refusal (dealOnce c) = number (λ (a : DealtOnce). a .refusal) (cursorRefusal c) _ _ refl refl
 tells-refusal (dealOnceLent c) = refl
 
 -- where the number is not 0, every answer computes to the refused one

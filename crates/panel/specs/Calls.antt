@@ -18,7 +18,7 @@ use Rattle.rules.specs.declared.Located.{Located}
 use Rattle.rules.specs.declared.Offset.{Offset}
 use Rattle.rules.specs.declared.Heights.{Heights}
 use Rattle.rules.specs.declared.DeckView.{DeckView}
-use Rattle.rules.specs.declared.Turned.{Turned}
+use Rattle.rules.specs.declared.DealtOnce.{DealtOnce}
 use Rattle.rules.specs.Answers.{dealAnswer, resumeAnswer, saveAnswer, masksAnswer, winAnswer, sureWinAnswer, ladderAnswer, testAnswer, listingAnswer, listingFront, listingInto, pilesAnswer, pilesBuffer, moveAnswer, moveHistory, undoAnswer, findAnswer, offsetAnswer, heightsAnswer, deckAnswer, cursorRefusal, dealOnceAnswer}
 use Rattle.panel.specs.declared.MovedNumbers.{MovedNumbers}
 use Rattle.panel.specs.Crossing.{asked, movedNumbers}
@@ -72,7 +72,7 @@ Answer (deck p) = DeckView
 Answer (find p card) = Located
 Answer (offset p n) = Offset
 Answer (faceUp p buffer) = Piled
-Answer (dealOnce c) = Turned
+Answer (dealOnce c) = DealtOnce
 Answer (dealOnceLent c) = ℕ
 
 abbrev pub answer : (i : Input) → Answer i

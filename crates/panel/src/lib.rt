@@ -20,7 +20,7 @@ use rules::Position;
 use rules::Saved;
 use rules::Started;
 use rules::Told;
-use rules::Turned;
+use rules::DealtOnce;
 use rules::TurnedUp;
 use rules::Undone;
 
@@ -191,7 +191,7 @@ pub extern "C" fn gravyhelm_piles(p: Position, out: &mut [u8]) -> Piled
 }
 
 #[no_mangle]
-pub extern "C" fn gravyhelm_deal_once(c: Cursor) -> Turned
+pub extern "C" fn gravyhelm_deal_once(c: Cursor) -> DealtOnce
     ensures { λ r. ⌜ r ≡ answer (dealOnce c) ⌝ }
 {
     deck::deal_once(c)

@@ -6,7 +6,7 @@ use Prim.Native.Nat.{ℕ, _-_}
 use Rattle.rules.specs.declared.Position.{Position}
 use Rattle.rules.specs.declared.TurnedUp.the-variants.{Nothing}
 use Rattle.rules.specs.Places.{count, pileCard, cardAt, deckCard, isHead, pileOf}
-use Rattle.rules.specs.Play.{raised, lowered, shown, hidden, drawn, turned, under, withDeck, deckPlace, after, undoByte, turnedUp}
+use Rattle.rules.specs.Play.{raised, lowered, laid, lifted, drawn, uncovered, under, withDeck, deckPlace, after, undoByte, turnedUp}
 use Rattle.rules.specs.Fields.{withVisible, withHeights}
 use Rattle.play.specs.Made.{made, turnedAt}
 use Rattle.rules.specs.Hidden.{underIn}
@@ -16,11 +16,11 @@ module _ (p : Position) (c : ℕ) where
   unfolding made after undoByte turnedUp drawn raised deckPlace
   made-deck-stack = refl
 
-  pub made-deck-pile : record { position = shown (drawn p c) c; byte = p .offset; turned = Nothing } ≡ made p 2 c
-  unfolding made after undoByte turnedUp drawn shown deckPlace
+  pub made-deck-pile : record { position = laid (drawn p c) c; byte = p .offset; turned = Nothing } ≡ made p 2 c
+  unfolding made after undoByte turnedUp drawn laid deckPlace
   made-deck-pile = refl
 
-  pub made-stack-pile : record { position = shown (lowered p c) c; byte = 0; turned = Nothing } ≡ made p 3 c
+  pub made-stack-pile : record { position = laid (lowered p c) c; byte = 0; turned = Nothing } ≡ made p 3 c
   unfolding made after undoByte turnedUp
   made-stack-pile = refl
 
@@ -28,10 +28,10 @@ module _ (p : Position) (c : ℕ) where
   unfolding made turnedAt after undoByte turnedUp
   made-reveal = refl
 
-  pub made-head-up : isHead p c ≡ true → turnedAt (hidden (raised p c) c) (pileOf p c) 1 ≡ made p 1 c
-  unfolding made turnedAt after undoByte turnedUp underIn hidden raised
+  pub made-head-up : isHead p c ≡ true → turnedAt (lifted (raised p c) c) (pileOf p c) 1 ≡ made p 1 c
+  unfolding made turnedAt after undoByte turnedUp underIn lifted raised
   made-head-up h = rw h refl
 
-  pub made-card-up : isHead p c ≡ false → record { position = hidden (raised p c) c; byte = 0; turned = Nothing } ≡ made p 1 c
+  pub made-card-up : isHead p c ≡ false → record { position = lifted (raised p c) c; byte = 0; turned = Nothing } ≡ made p 1 c
   unfolding made after undoByte turnedUp
   made-card-up h = rw h refl

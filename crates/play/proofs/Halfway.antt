@@ -11,7 +11,7 @@ use Rattle.rules.specs.declared.TurnedUp.the-variants.{Nothing}
 use Rattle.rules.specs.Hidden.{headPile, barePile}
 use Rattle.rules.specs.Legal.{legal}
 use Rattle.rules.specs.Proper.{proper}
-use Rattle.rules.specs.Play.{raised, lowered, shown, hidden, drawn, putBack, turnedBack, withDeck, before}
+use Rattle.rules.specs.Play.{raised, lowered, laid, lifted, drawn, putBack, covered, withDeck, before}
 use Rattle.rules.specs.Fields.{withVisible, withHeights}
 use Rattle.play.specs.declared.Made.{Made}
 use Rattle.play.specs.Made.{made, turnedAt, hasWay}
@@ -41,18 +41,18 @@ module _ (p : Position) (c : ℕ) (kind : ℕ) where
   from-deck-up q byte pile k e b l =
       rw (e, b, l) (record { deal = refl; counts = refl; some = λ s. absurd (omega arith); none = λ s. at-kind 0 k _ (made-deck-stack p c) })
 
-  pub from-deck : (q : Position) (byte pile : ℕ) → kind ≡ 2 → q ≡ shown (drawn p c) c → byte ≡ p .offset → pile ≡ 7 → Making q byte pile
-  unfolding shown drawn
+  pub from-deck : (q : Position) (byte pile : ℕ) → kind ≡ 2 → q ≡ laid (drawn p c) c → byte ≡ p .offset → pile ≡ 7 → Making q byte pile
+  unfolding laid drawn
   from-deck q byte pile k e b l =
       rw (e, b, l) (record { deal = refl; counts = refl; some = λ s. absurd (omega arith); none = λ s. at-kind 2 k _ (made-deck-pile p c) })
 
-  pub from-stack : (q : Position) (byte pile : ℕ) → kind ≡ 3 → q ≡ shown (lowered p c) c → byte ≡ 0 → pile ≡ 7 → Making q byte pile
-  unfolding shown lowered
+  pub from-stack : (q : Position) (byte pile : ℕ) → kind ≡ 3 → q ≡ laid (lowered p c) c → byte ≡ 0 → pile ≡ 7 → Making q byte pile
+  unfolding laid lowered
   from-stack q byte pile k e b l =
       rw (e, b, l) (record { deal = refl; counts = refl; some = λ s. absurd (omega arith); none = λ s. at-kind 3 k _ (made-stack-pile p c) })
 
-  pub from-pile-up : (q : Position) (byte pile : ℕ) → T (proper p) → kind ≡ 1 → q ≡ hidden (raised p c) c → byte ≡ boolByte (ltb pile 7) → pile ≡ headPile (p .deal) (p .counts) c → Making q byte pile
-  unfolding hidden raised
+  pub from-pile-up : (q : Position) (byte pile : ℕ) → T (proper p) → kind ≡ 1 → q ≡ lifted (raised p c) c → byte ≡ boolByte (ltb pile 7) → pile ≡ headPile (p .deal) (p .counts) c → Making q byte pile
+  unfolding lifted raised
   from-pile-up q byte pile t k e b l =
       rw e
       (record {
@@ -79,7 +79,7 @@ module _ (p : Position) (c : ℕ) (kind : ℕ) where
 
 module _ (p : Position) (byte c : ℕ) (kind : ℕ) where
   abbrev pub Going : Position → ℕ → Type 0
-  Going q pile = Halfway p q pile (turnedBack q pile) q (before p byte kind c)
+  Going q pile = Halfway p q pile (covered q pile) q (before p byte kind c)
 
   was-kind : (k : ℕ) → kind ≡ k → (q : Position) → q ≡ before p byte k c → q ≡ before p byte kind c
   was-kind k e q h = h ∙ sym (ap (λ (x : ℕ). before p byte x c) e)
@@ -89,23 +89,23 @@ module _ (p : Position) (byte c : ℕ) (kind : ℕ) where
   to-deck-down q pile k e l =
       rw (e, l) (record { deal = refl; counts = refl; some = λ s. absurd (omega arith); none = λ s. was-kind 0 k _ refl })
 
-  pub to-deck : (q : Position) (pile : ℕ) → kind ≡ 2 → q ≡ putBack (hidden p c) c byte → pile ≡ 7 → Going q pile
-  unfolding before putBack hidden
+  pub to-deck : (q : Position) (pile : ℕ) → kind ≡ 2 → q ≡ putBack (lifted p c) c byte → pile ≡ 7 → Going q pile
+  unfolding before putBack lifted
   to-deck q pile k e l =
       rw (e, l) (record { deal = refl; counts = refl; some = λ s. absurd (omega arith); none = λ s. was-kind 2 k _ refl })
 
-  pub to-stack : (q : Position) (pile : ℕ) → kind ≡ 3 → q ≡ raised (hidden p c) c → pile ≡ 7 → Going q pile
-  unfolding before raised hidden
+  pub to-stack : (q : Position) (pile : ℕ) → kind ≡ 3 → q ≡ raised (lifted p c) c → pile ≡ 7 → Going q pile
+  unfolding before raised lifted
   to-stack q pile k e l =
       rw (e, l) (record { deal = refl; counts = refl; some = λ s. absurd (omega arith); none = λ s. was-kind 3 k _ refl })
 
-  pub card-down : (q : Position) (pile : ℕ) → kind ≡ 1 → byte ≡ 0 → q ≡ shown (lowered p c) c → pile ≡ 7 → Going q pile
-  unfolding before shown lowered
+  pub card-down : (q : Position) (pile : ℕ) → kind ≡ 1 → byte ≡ 0 → q ≡ laid (lowered p c) c → pile ≡ 7 → Going q pile
+  unfolding before laid lowered
   card-down q pile k b e l =
       rw (e, l) (record { deal = refl; counts = refl; some = λ s. absurd (omega arith); none = λ s. was-kind 1 k _ (rw (eq-eqb byte 0 b) refl) })
 
-  pub head-down : (q : Position) (pile : ℕ) → T (proper p) → T (hasWay p byte kind c) → kind ≡ 1 → (byte ≡ 0 → ⊥) → q ≡ shown (lowered p c) c → pile ≡ barePile (p .deal) (p .counts) c → Going q pile
-  unfolding before shown lowered
+  pub head-down : (q : Position) (pile : ℕ) → T (proper p) → T (hasWay p byte kind c) → kind ≡ 1 → (byte ≡ 0 → ⊥) → q ≡ laid (lowered p c) c → pile ≡ barePile (p .deal) (p .counts) c → Going q pile
+  unfolding before laid lowered
   head-down q pile t w k b e l =
       let h = bare-at p t c (pile-stack-way p byte c (subst (λ (x : ℕ). T (hasWay p byte x c)) k w) b) in
       rw (e, l)

@@ -16,7 +16,7 @@ use Rattle.rules.specs.Hidden.{bareOf, barePile}
 use Rattle.rules.specs.Proper.{proper}
 use Rattle.rules.specs.Legal.{legal, revealLegal, hasRoom}
 use Rattle.rules.specs.History.{entryByte, entryKind, entryCard, isKindAndCard, samePosition, stepBack, undoable}
-use Rattle.rules.specs.Play.{lowered, shown, hidden, putBack, turnedBack, withDeck, before, after, undoByte}
+use Rattle.rules.specs.Play.{lowered, laid, lifted, putBack, covered, withDeck, before, after, undoByte}
 use Rattle.rules.specs.Fields.{withHeights, withVisible}
 use Rattle.bits.proofs.Searches.{and-left, and-both, first-least, is-false}
 use Rattle.rules.proofs.Facts.{Facts, facts-of as facts}
@@ -32,7 +32,7 @@ use Rattle.play.specs.Undone.{leadsTo, undone}
 
 module _ (p r : Position) (c : ℕ) (d : r .deal ≡ p .deal) (n : r .counts ≡ p .counts) (long : length (p .counts) ≡ 7) where
   abbrev q : Position
-  q = turnedBack r (pileOf p c)
+  q = covered r (pileOf p c)
 
   deal : q .deal ≡ p .deal
   deal = back-stays r (pileOf p c) .deal ∙ d
@@ -74,23 +74,23 @@ module _ (p : Position) (byte c : ℕ) (long : length (p .counts) ≡ 7) where
   was-head false e z = absurd (eqb-false byte 0 z (sym (eqb-true 0 byte e)))
 
   pub has-way : (kind : ℕ) → proper (before p byte kind c) ≡ true → legal (before p byte kind c) kind c ≡ true → eqb (undoByte (before p byte kind c) kind c) byte ≡ true → hasWay p byte kind c ≡ true
-  unfolding hasWay before legal undoByte revealLegal lowered shown hidden
+  unfolding hasWay before legal undoByte revealLegal lowered laid lifted
   has-way zero h l u = room (lowered p c) refl h
   has-way (suc zero) h l u = go (eqb byte 0) refl h u
     where
       r : Position
-      r = shown (lowered p c) c
+      r = laid (lowered p c) c
 
       back : Position
-      back = turnedBack r (pileOf p c)
+      back = covered r (pileOf p c)
 
       go : (b : Bool) → eqb byte 0 ≡ b → proper (cond b r back) ≡ true → eqb (num (isHead (cond b r back) c)) byte ≡ true → (b || leftPile p c) ≡ true
       go true e h u = refl
       go false e h u = had-left p r c refl refl long h (was-head (isHead back c) u e)
-  has-way (suc (suc zero)) h l u = room (hidden p c) refl h
+  has-way (suc (suc zero)) h l u = room (lifted p c) refl h
   has-way (suc (suc (suc zero))) h l u = refl
   has-way (suc (suc (suc (suc k)))) h l u =
-      let q = turnedBack p (pileOf p c) in
+      let q = covered p (pileOf p c) in
       had-left p p c refl refl long h (and-left (isHead q c) (hasRoom q c) (and-left (isHead q c && hasRoom q c) _ l))
 
 -- ---- refusal 15, by what the code asks in turn

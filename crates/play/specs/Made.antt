@@ -5,7 +5,7 @@ use lib.Dec.{eqb, ltb}
 use Rattle.rules.specs.declared.Position.{Position}
 use Rattle.rules.specs.Hidden.{barePile}
 use Rattle.rules.specs.Legal.{byKind}
-use Rattle.rules.specs.Play.{turned, under, after, undoByte, turnedUp}
+use Rattle.rules.specs.Play.{uncovered, under, after, undoByte, turnedUp}
 use Rattle.play.specs.declared.Made.{Made}
 
 -- a move's position, byte and turned-up card
@@ -14,7 +14,7 @@ made p kind c = record { position = after p kind c; byte = undoByte p kind c; tu
 
 -- the pile's head has left it: what that turned up, and the byte that is written for it
 unfoldable pub turnedAt : Position → ℕ → ℕ → Made
-turnedAt p i byte = record { position = turned p i; byte = byte; turned = under p i }
+turnedAt p i byte = record { position = uncovered p i; byte = byte; turned = under p i }
 
 -- a head left some pile just above its locked cards
 unfoldable pub leftPile : Position → ℕ → Bool

@@ -15,7 +15,7 @@ use Rattle.rules.specs.declared.TurnedUp.the-variants.{Nothing, Emptied,
 use Rattle.rules.specs.Bits.{allOf, firstOf}
 use Rattle.rules.specs.Places.{cardAt, pileCard, count, hasHead, head, isHead, isBuried, isLocked, isBase, pileOf}
 use Rattle.rules.specs.Code.{countsField, pileField, fieldCount, codeCount, codePiles, table}
-use Rattle.rules.specs.Play.{shown, hidden, turned, turnedBack, under}
+use Rattle.rules.specs.Play.{laid, lifted, uncovered, covered, under}
 use Rattle.rules.specs.Fields.{withCounts}
 use Rattle.rules.specs.Hidden.{placed, headOf, bareOf, headIn, buriedIn, lockedIn, baseIn, headPile, barePile, oneLess, oneMore, underIn, coveredIn, allUp}
 use Rattle.bits.proofs.Searches.{and-left, and-right, and-both, any-yes, yes-any, first-yes}
@@ -74,25 +74,25 @@ head-pile-none p c h = first-none 7 _ (λ j l t. true≢false (sym (yes-any 7 (�
 unfoldable pub upTurned : Position → TurnedUp → Position
 upTurned p Nothing = p
 upTurned p Emptied = p
-upTurned p (Card c) = shown p (c .0)
+upTurned p (Card c) = laid p (c .0)
 
 unfoldable pub upHidden : Position → TurnedUp → Position
 upHidden p Nothing = p
 upHidden p Emptied = p
-upHidden p (Card c) = hidden p (c .0)
+upHidden p (Card c) = lifted p (c .0)
 
 -- a choice within a function's argument
 under-cond : {A B : Type 0} (g : A → B) (b : Bool) (x y : A) → g (cond b x y) ≡ cond b (g x) (g y)
 under-cond g true x y = refl
 under-cond g false x y = refl
 
-pub turned-is : (p : Position) (i : ℕ) → turned p i ≡ upTurned (withCounts p (oneLess (p .counts) i)) (underIn (p .deal) (p .counts) i)
-unfolding turned upTurned oneLess underIn
-turned-is p i = sym (under-cond (upTurned (withCounts p (oneLess (p .counts) i))) (ltb 1 (getD (p .counts) i 0)) _ _)
+pub uncovered-is : (p : Position) (i : ℕ) → uncovered p i ≡ upTurned (withCounts p (oneLess (p .counts) i)) (underIn (p .deal) (p .counts) i)
+unfolding uncovered upTurned oneLess underIn
+uncovered-is p i = sym (under-cond (upTurned (withCounts p (oneLess (p .counts) i))) (ltb 1 (getD (p .counts) i 0)) _ _)
 
-pub turned-back-is : (p : Position) (i : ℕ) → turnedBack p i ≡ upHidden (withCounts p (oneMore (p .counts) i)) (coveredIn (p .deal) (p .counts) i)
-unfolding turnedBack upHidden oneMore coveredIn
-turned-back-is p i = sym (under-cond (upHidden (withCounts p (oneMore (p .counts) i))) (ltb 0 (getD (p .counts) i 0)) _ _)
+pub covered-is : (p : Position) (i : ℕ) → covered p i ≡ upHidden (withCounts p (oneMore (p .counts) i)) (coveredIn (p .deal) (p .counts) i)
+unfolding covered upHidden oneMore coveredIn
+covered-is p i = sym (under-cond (upHidden (withCounts p (oneMore (p .counts) i))) (ltb 0 (getD (p .counts) i 0)) _ _)
 
 -- a head that leaves and comes back: the counts are the old ones, and it covers what it had uncovered
 module _ (n : List ℕ) (i : ℕ) (long : i < length n) (some : 0 < getD n i 0) where

@@ -39,8 +39,8 @@ abbrev pub unarranged : ℕ
 unarranged = 9
 
 -- "kind above 4 or card above 51"
-abbrev pub noMove : ℕ
-noMove = 10
+abbrev pub noSuchMove : ℕ
+noSuchMove = 10
 
 -- "move not legal"
 abbrev pub notLegal : ℕ

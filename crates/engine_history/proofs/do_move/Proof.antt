@@ -65,48 +65,48 @@ may c = granted (c .before .is-valid-move .ensures) (c .if5 .left)
 is-proper-requires : tie.Need-is-proper-requires
 is-proper-requires c κs = search needs
 
-no-move-requires : tie.Need-no-move-requires
-no-move-requires c κs = search needs
+refused-move-requires : tie.Need-refused-move-requires
+refused-move-requires c κs = search needs
 
 returns : tie.Need-returns
 unfolding moveAnswer moveHistory moveRefusal
 returns c =
     let t = c .before in
-    rw (is-wrong (t .before .before .before .args .p) (t .before .is-proper .ensures) (t .if1 .taken)) (c .no-move .ensures, refl)
+    rw (is-wrong (t .before .before .before .args .p) (t .before .is-proper .ensures) (t .if1 .taken)) (c .refused-move .ensures, refl)
 
-no-move-requires-2 : tie.Need-no-move-requires-2
-no-move-requires-2 c κs = search needs
+refused-move-requires-2 : tie.Need-refused-move-requires-2
+refused-move-requires-2 c κs = search needs
 
 returns-2 : tie.Need-returns-2
 unfolding moveAnswer moveHistory moveRefusal
 returns-2 c =
     let t = c .before in
-    rw (right (t .before), lt-ltb _ _ (t .if2 .taken)) (c .no-move2 .ensures, refl)
+    rw (right (t .before), lt-ltb _ _ (t .if2 .taken)) (c .refused-move2 .ensures, refl)
 
-no-move-requires-3 : tie.Need-no-move-requires-3
-no-move-requires-3 c κs = search needs
+refused-move-requires-3 : tie.Need-refused-move-requires-3
+refused-move-requires-3 c κs = search needs
 
 returns-3 : tie.Need-returns-3
 unfolding moveAnswer moveHistory moveRefusal isKindAndCard
 returns-3 c =
     let e = c .before .before in
-    rw (right (e .before), within e, lt-leb _ 4 (c .before .if3 .taken)) (c .no-move3 .ensures, refl)
+    rw (right (e .before), within e, lt-leb _ 4 (c .before .if3 .taken)) (c .refused-move3 .ensures, refl)
 
-no-move-requires-4 : tie.Need-no-move-requires-4
-no-move-requires-4 c κs = search needs
+refused-move-requires-4 : tie.Need-refused-move-requires-4
+refused-move-requires-4 c κs = search needs
 
 returns-4 : tie.Need-returns-4
 unfolding moveAnswer moveHistory moveRefusal isKindAndCard
 returns-4 c =
     let k = c .before .before in
     let e = k .before in
-    rw (right (e .before), within e, le-leb _ _ (k .if3 .left), lt-leb _ 51 (c .before .if4 .taken)) (c .no-move4 .ensures, refl)
+    rw (right (e .before), within e, le-leb _ _ (k .if3 .left), lt-leb _ 51 (c .before .if4 .taken)) (c .refused-move4 .ensures, refl)
 
 is-valid-move-requires : tie.Need-is-valid-move-requires
 is-valid-move-requires c κs = (true-T _ (right (counted c .before)), omega arith, omega arith)
 
-no-move-requires-5 : tie.Need-no-move-requires-5
-no-move-requires-5 c κs = search needs
+refused-move-requires-5 : tie.Need-refused-move-requires-5
+refused-move-requires-5 c κs = search needs
 
 returns-5 : tie.Need-returns-5
 unfolding moveAnswer moveHistory moveRefusal
@@ -114,17 +114,17 @@ returns-5 c =
     let t = c .before in
     let d = t .before .before in
     let e = counted d in
-    rw (right (e .before), within e, is-move d, denied (t .before .is-valid-move .ensures) (t .if5 .taken)) (c .no-move5 .ensures, refl)
+    rw (right (e .before), within e, is-move d, denied (t .before .is-valid-move .ensures) (t .if5 .taken)) (c .refused-move5 .ensures, refl)
 
-no-move-requires-6 : tie.Need-no-move-requires-6
-no-move-requires-6 c κs = search needs
+refused-move-requires-6 : tie.Need-refused-move-requires-6
+refused-move-requires-6 c κs = search needs
 
 returns-6 : tie.Need-returns-6
 unfolding moveAnswer moveHistory moveRefusal
 returns-6 c =
     let l = c .before .before in
     let e = counted (tried l) in
-    rw (right (e .before), within e, is-move (tried l), may l, eq-eqb _ _ (c .before .if6 .taken)) (c .no-move6 .ensures, refl)
+    rw (right (e .before), within e, is-move (tried l), may l, eq-eqb _ _ (c .before .if6 .taken)) (c .refused-move6 .ensures, refl)
 
 add-next : tie.Need-add-next
 add-next c = search needs
@@ -165,18 +165,18 @@ do-move-spec =
     tie.close
     (tie.spec
     is-proper-requires
-    no-move-requires
+    refused-move-requires
     returns
-    no-move-requires-2
+    refused-move-requires-2
     returns-2
-    no-move-requires-3
+    refused-move-requires-3
     returns-3
-    no-move-requires-4
+    refused-move-requires-4
     returns-4
     is-valid-move-requires
-    no-move-requires-5
+    refused-move-requires-5
     returns-5
-    no-move-requires-6
+    refused-move-requires-6
     returns-6
     add-next
     do-move-requires

@@ -52,32 +52,32 @@ asked c = ap (λ (x : Back). x .possible) (c .undo .ensures) ∙ possible-is (of
 is-proper-requires : tie.Need-is-proper-requires
 is-proper-requires c κs = search needs
 
-no-undo-requires : tie.Need-no-undo-requires
-no-undo-requires c κs = search needs
+refused-undo-requires : tie.Need-refused-undo-requires
+refused-undo-requires c κs = search needs
 
 returns : tie.Need-returns
 unfolding undoAnswer undoRefusal
 returns c =
     let t = c .before in
-    rw (is-wrong (t .before .before .before .args .p) (t .before .is-proper .ensures) (t .if1 .taken)) (c .no-undo .ensures)
+    rw (is-wrong (t .before .before .before .args .p) (t .before .is-proper .ensures) (t .if1 .taken)) (c .refused-undo .ensures)
 
-no-undo-requires-2 : tie.Need-no-undo-requires-2
-no-undo-requires-2 c κs = search needs
+refused-undo-requires-2 : tie.Need-refused-undo-requires-2
+refused-undo-requires-2 c κs = search needs
 
 returns-2 : tie.Need-returns-2
 unfolding undoAnswer undoRefusal
 returns-2 c =
     let t = c .before in
-    rw (right (t .before), lt-ltb _ _ (t .if2 .taken)) (c .no-undo2 .ensures)
+    rw (right (t .before), lt-ltb _ _ (t .if2 .taken)) (c .refused-undo2 .ensures)
 
-no-undo-requires-3 : tie.Need-no-undo-requires-3
-no-undo-requires-3 c κs = search needs
+refused-undo-requires-3 : tie.Need-refused-undo-requires-3
+refused-undo-requires-3 c κs = search needs
 
 returns-3 : tie.Need-returns-3
 unfolding undoAnswer undoRefusal
 returns-3 c =
     let e = c .before .before in
-    rw (right (e .before), within e, eq-eqb _ _ (c .before .if3 .taken)) (c .no-undo3 .ensures)
+    rw (right (e .before), within e, eq-eqb _ _ (c .before .if3 .taken)) (c .refused-undo3 .ensures)
 
 sub-undo : tie.Need-sub-undo
 sub-undo c = search needs
@@ -91,8 +91,8 @@ shared-slice-read-undo c = search needs
 undo-requires : tie.Need-undo-requires
 undo-requires c κs = true-T _ (right (c .before .before .before))
 
-no-undo-requires-4 : tie.Need-no-undo-requires-4
-no-undo-requires-4 c κs = search needs
+refused-undo-requires-4 : tie.Need-refused-undo-requires-4
+refused-undo-requires-4 c κs = search needs
 
 returns-4 : tie.Need-returns-4
 unfolding undoAnswer undoRefusal
@@ -101,7 +101,7 @@ returns-4 c =
     let u = t .before .before in
     let z = gone u in
     let e = z .before in
-    rw (right (e .before), within e, ne-eqb _ _ (z .if3 .left), denied (asked u) (t .if4 .taken)) (c .no-undo4 .ensures)
+    rw (right (e .before), within e, ne-eqb _ _ (z .if3 .left), denied (asked u) (t .if4 .taken)) (c .refused-undo4 .ensures)
 
 sub-t8 : tie.Need-sub-t8
 sub-t8 c = search needs
@@ -123,17 +123,17 @@ undo-move-spec =
     tie.close
     (tie.spec
     is-proper-requires
-    no-undo-requires
+    refused-undo-requires
     returns
-    no-undo-requires-2
+    refused-undo-requires-2
     returns-2
-    no-undo-requires-3
+    refused-undo-requires-3
     returns-3
     sub-undo
     mul-undo
     shared-slice-read-undo
     undo-requires
-    no-undo-requires-4
+    refused-undo-requires-4
     returns-4
     sub-t8
     returns-5)

@@ -10,7 +10,7 @@ use lib.ListN.{getD}
 use borrow.Author.Count.{below-more}
 use Rattle.rules.specs.Places.{pileStart}
 use Rattle.bits.proofs.Steps.{first-at, first-none}
-use Rattle.hidden.specs.Places.{hasPlace, standsAt}
+use Rattle.hidden.specs.PilePlace.{hasPlace, standsAt}
 use Rattle.hidden_masks.proofs.Collected.{in-deal}
 use Rattle.hidden.proofs.Found.{card-there, other-card, no-place, place-fits, place-some}
 use Rattle.hidden.proofs.find_at.Statement.{statement}

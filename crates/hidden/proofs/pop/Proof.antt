@@ -6,7 +6,7 @@ use Prim.Native.Nat.{_-_}
 use native.Mathlib.Omega.{arith}
 use lib.ListN.{getD, set}
 use Rattle.rules.specs.Hidden.{oneLess, underIn}
-use Rattle.hidden.specs.Places.{lastOf}
+use Rattle.hidden.specs.PilePlace.{lastOf}
 use Rattle.hidden_counts.proofs.Head.{less-one, some-le}
 use Rattle.hidden.proofs.Found.{under-last}
 use Rattle.hidden.proofs.pop.Statement.{statement}

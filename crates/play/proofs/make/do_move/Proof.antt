@@ -18,7 +18,7 @@ use Rattle.facts.proofs.Deck.{place-low}
 use Rattle.hidden_masks.proofs.Collected.{in-deal}
 use Rattle.play.proofs.Known.{counts-fit, same-fit, suit-fits, low-height, deck-stack-in, deck-pile-in}
 use Rattle.play.proofs.LastKind.{rest}
-use Rattle.play.proofs.Written.{drawn-up, drawn-shown, down-shown, up-hidden, turned-card, turned-emptied}
+use Rattle.play.proofs.Written.{drawn-up, drawn-laid, down-laid, up-lifted, uncovered-card, uncovered-emptied}
 use Rattle.play.proofs.Halfway.{Making, from-deck-up, from-deck, from-stack, from-pile-up, to-pile}
 use Rattle.play.proofs.make.do_move.Statement.{statement}
 use Rattle.play.proofs.make.do_move.Tie as tie
@@ -80,12 +80,12 @@ mid c =
     (⊎-elim
     (λ w.
     from-deck p card kind (m .p) (m .byte) (m .pile) (⊎-elim (λ z. absurd (w .4 .left z)) (λ z. z) (w .0 .keys1))
-    (w .6 ∙ drawn-shown p card s e (w .2 .result) (w .3 .result) (w .5 .result) (w .2 .ensures) (w .3 .ensures) (w .5 .ensures)) (w .7) (w .8))
+    (w .6 ∙ drawn-laid p card s e (w .2 .result) (w .3 .result) (w .5 .result) (w .2 .ensures) (w .3 .ensures) (w .5 .ensures)) (w .7) (w .8))
     (⊎-elim
-    (λ w. from-stack p card kind (m .p) (m .byte) (m .pile) (w .0 .keys2) (w .4 ∙ down-shown p card s e (w .2 .result) (w .3 .result) (w .2 .ensures) (w .3 .ensures)) (w .5) (w .6))
+    (λ w. from-stack p card kind (m .p) (m .byte) (m .pile) (w .0 .keys2) (w .4 ∙ down-laid p card s e (w .2 .result) (w .3 .result) (w .2 .ensures) (w .3 .ensures)) (w .5) (w .6))
     (⊎-elim
     (λ w.
-    from-pile-up p card kind (m .p) (m .byte) (m .pile) (b .pre .0) (w .0 .keys3) (w .4 ∙ up-hidden p card s e (w .2 .result) (w .2 .ensures))
+    from-pile-up p card kind (m .p) (m .byte) (m .pile) (b .pre .0) (w .0 .keys3) (w .4 ∙ up-lifted p card s e (w .2 .result) (w .2 .ensures))
     (w .5 ∙ ap (λ (i : ℕ). boolByte (ltb i 7)) (sym (w .6))) (w .6 ∙ w .3 .ensures))
     (λ w. to-pile p card kind (m .p) (m .byte) (m .pile) (b .pre .0) (b .pre .1) (rest (w .0 .rest)) (w .2) (w .3) (w .4 ∙ w .1 .ensures)))))
     (m .came)
@@ -202,7 +202,7 @@ returns c =
     let q = m .p in
     let n = getD (q .counts) (m .pile) 0 in
     let k : s .pile-start .result + n - 2 ≡ pileStart (m .pile) + (n - 2) = omega (arith, s .pile-start .ensures, s .before .if3 .taken) in
-    turned-card q (m .pile) (l .one-less2 .result) (m .byte) (getD (q .deal) (s .pile-start .result + n - 2) 0) (c .seen3 .result) (l .one-less2 .ensures) (s .before .if3 .taken)
+    uncovered-card q (m .pile) (l .one-less2 .result) (m .byte) (getD (q .deal) (s .pile-start .result + n - 2) 0) (c .seen3 .result) (l .one-less2 .ensures) (s .before .if3 .taken)
     (ap (λ (x : ℕ). getD (q .deal) x 0) k) (c .seen3 .ensures)
     ∙ mid (t .before) .some (t .if2 .taken)
 
@@ -211,7 +211,7 @@ returns-2 c =
     let l = c .before in
     let t = lessened l in
     let m = t .before .match in
-    turned-emptied (m .p) (m .pile) (l .one-less2 .result) (m .byte) (l .one-less2 .ensures) (c .if3 .left) ∙ mid (t .before) .some (t .if2 .taken)
+    uncovered-emptied (m .p) (m .pile) (l .one-less2 .result) (m .byte) (l .one-less2 .ensures) (c .if3 .left) ∙ mid (t .before) .some (t .if2 .taken)
 
 returns-3 : tie.Need-returns-3
 returns-3 c = mid (c .before) .none (c .if2 .left)

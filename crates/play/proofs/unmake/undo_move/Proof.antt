@@ -13,7 +13,7 @@ use Rattle.hidden_masks.proofs.Collected.{in-deal}
 use Rattle.play.specs.Made.{hasWay}
 use Rattle.play.proofs.Known.{counts-fit, same-fit, suit-fits, low-height, deck-stack-way, deck-pile-way}
 use Rattle.play.proofs.LastKind.{rest}
-use Rattle.play.proofs.Written.{down-back, hidden-back, hidden-up, down-shown, back-card, back-emptied}
+use Rattle.play.proofs.Written.{down-back, lifted-back, lifted-up, down-laid, back-card, back-emptied}
 use Rattle.play.proofs.Halfway.{Going, to-deck-down, to-deck, to-stack, head-down, card-down, head-back}
 use Rattle.play.proofs.unmake.undo_move.Statement.{statement}
 use Rattle.play.proofs.unmake.undo_move.Tie as tie
@@ -61,15 +61,15 @@ mid c =
     (⊎-elim
     (λ w.
     to-deck p byte card kind (m .p) (m .pile) (⊎-elim (λ z. absurd (w .3 .left z)) (λ z. z) (w .0 .keys1))
-    (w .5 ∙ hidden-back p card s e (w .4 .result) byte (w .2 .result) (w .4 .ensures) (w .2 .ensures)) (w .6))
+    (w .5 ∙ lifted-back p card s e (w .4 .result) byte (w .2 .result) (w .4 .ensures) (w .2 .ensures)) (w .6))
     (⊎-elim
-    (λ w. to-stack p byte card kind (m .p) (m .pile) (w .0 .keys2) (w .3 ∙ hidden-up p card s e (w .2 .result) (w .2 .ensures)) (w .4))
+    (λ w. to-stack p byte card kind (m .p) (m .pile) (w .0 .keys2) (w .3 ∙ lifted-up p card s e (w .2 .result) (w .2 .ensures)) (w .4))
     (⊎-elim
     (λ w.
     head-down p byte card kind (m .p) (m .pile) (b .pre .0) (b .pre .1) (w .0 .keys3) (w .4 .taken)
-    (w .6 ∙ down-shown p card s e (w .2 .result) (w .3 .result) (w .2 .ensures) (w .3 .ensures)) (w .7 ∙ w .5 .ensures))
+    (w .6 ∙ down-laid p card s e (w .2 .result) (w .3 .result) (w .2 .ensures) (w .3 .ensures)) (w .7 ∙ w .5 .ensures))
     (⊎-elim
-    (λ w. card-down p byte card kind (m .p) (m .pile) (w .0 .keys3) (w .4 .left) (w .5 ∙ down-shown p card s e (w .2 .result) (w .3 .result) (w .2 .ensures) (w .3 .ensures)) (w .6))
+    (λ w. card-down p byte card kind (m .p) (m .pile) (w .0 .keys3) (w .4 .left) (w .5 ∙ down-laid p card s e (w .2 .result) (w .3 .result) (w .2 .ensures) (w .3 .ensures)) (w .6))
     (λ w. head-back p byte card kind (m .p) (m .pile) (b .pre .0) (b .pre .1) (rest (w .0 .rest)) (w .2) (w .3 ∙ w .1 .ensures))))))
     (m .came)
 
