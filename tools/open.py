@@ -1,4 +1,5 @@
-"""Writes crates/rules/proofs/Open.antt: one name whose `unfolding` line opens every definition of specs/. Run from the repository's root."""
+"""Writes crates/rules/proofs/Open.antt: one name whose `unfolding` line opens every definition of specs/, and one that leaves the costly ones closed.
+Run from the repository's root."""
 import re
 
 BASE = "crates/rules/"
@@ -24,5 +25,9 @@ for mod in mods:
             names.append(name)
     if uses:
         out.append(f"use Rattle.rules.specs.{mod}." + "{" + ", ".join(uses) + "}")
-out += ["", "unfoldable pub rules : Unit {0}", "unfolding " + " ".join(names), "rules = tt"]
+# the costly ones: a proof that leaves them closed computes each once for a position, and rewrites by that
+costly = ["proper", "masksFor"]
+out += ["", "-- all of them but " + " and ".join(f"`{n}`" for n in costly) + ": a proof may then compute these once for a position, and rewrite by that"]
+out += ["unfoldable pub rulesBut : Unit {0}", "unfolding " + " ".join(n for n in names if n not in costly), "rulesBut = tt"]
+out += ["", "unfoldable pub rules : Unit {0}", "unfolding rulesBut " + " ".join(costly), "rules = tt"]
 open(BASE + "proofs/Open.antt", "w").write("\n".join(out) + "\n")

@@ -1,12 +1,14 @@
 -- Every demand of document 01 besides the contracts, as one line each: the theorem's name and the statement that it proves. The statements stand in
--- rules/specs (Demands, Secrecy), under the document's sentences. The six main ones come first. Nothing is assumed.
+-- rules/specs (Demands, Secrecy, Worked), those about the table of calls in panel/specs (Firm), under the document's sentences. The six main ones come first.
+-- Nothing is assumed.
 use Rattle.rules.specs.Dealing.{DealsRight}
-use Rattle.rules.specs.Worked.{W}
+use Rattle.rules.specs.Worked.{W, Worked}
 use Rattle.rules.specs.Secrecy.{dealtFresh, KeepsSecrets}
 use Rattle.panel.specs.Firm.{OneOutcome, TellsRefusal, RefusedKeeps}
 use Rattle.rules.specs.Demands.{MovesKeepProper, UndoAfterMove, UndoSame, UndoWholeGame, RefusalExact, SaveResumeInverse, PrunedWithin, FreshProper, ResumedProper, CodeOfOne, UndoableSound, UndoableComplete, UndoableUnshaped, EarlierUnique, EntriesFit, ListedWithin, ListsLegal, ListsFew, ShownOnce, BytesShowOnce, PilesArranged}
 use Rattle.rules.proofs.DealsLaw.{deals-right as deals}
 use Rattle.rules.proofs.PrunedLaw.{pruned-within as within}
+use Rattle.rules.proofs.Worked.{worked}
 use Rattle.facts.proofs.MovesProper.{moves-keep-proper as kept-proper}
 use Rattle.laws.proofs.UndoMove.{undo-after-move as undone}
 use Rattle.laws.proofs.UndoSame.{undo-same as same}
@@ -24,7 +26,10 @@ use Rattle.laws.proofs.Few.{lists-few as few}
 use Rattle.laws.proofs.ShownOnce.{shows-once as shown}
 use Rattle.laws.proofs.PileBytes.{bytes-show-once as bytes}
 use Rattle.laws.proofs.Arranged.{piles-arranged as arranged}
-use Rattle.laws.proofs.NotVacuous.{W′, W″, Meets, Differs, calls, later, code, reveal, meets-fresh, meets-resumed, shows}
+use Rattle.laws.proofs.Games.{Meets, Answer}
+use Rattle.laws.proofs.NotVacuous.{W′, calls, sights, code, callsThen, sightsThen, meets-fresh, answers-fresh, meets-resumed, answers-resumed}
+use Rattle.laws.proofs.Leaks.{LeaksNoticed, leaks-noticed as noticed}
+use Rattle.laws.proofs.Shown.{W″, Differ, shownCalls, shows}
 use Rattle.laws.proofs.Secrets.{keeps-secrets as secrets}
 use Rattle.panel.proofs.OneOutcome.{one-outcome as outcome}
 use Rattle.panel.proofs.RefusedKeeps.{tells-refusal as tells, refused-keeps as kept}
@@ -49,16 +54,31 @@ pruned-within-unpruned = within
 pub nothing-hidden-shows : KeepsSecrets
 nothing-hidden-shows = secrets
 
--- ---- and the last speaks of something: two different deals and two runs that meet its hypotheses, one fresh, one resumed; a card turned up shows
+-- ---- and the last speaks of something: two different deals and two runs, one fresh and one resumed, that meet its hypotheses; what both games answer;
+-- a leak in any of the 14 kinds of call would make them differ; a card turned up shows
 
 pub fresh-runs : Meets W W′ 3 dealtFresh calls
 fresh-runs = meets-fresh
 
-pub resumed-runs : Meets W W′ 3 code later
+pub fresh-answers : Answer W W′ 3 dealtFresh calls sights
+fresh-answers = answers-fresh
+
+pub resumed-runs : Meets W W′ 3 code callsThen
 resumed-runs = meets-resumed
 
-pub turned-up-shows : Differs W W″ reveal
+pub resumed-answers : Answer W W′ 3 code callsThen sightsThen
+resumed-answers = answers-resumed
+
+pub leaks-noticed : LeaksNoticed
+leaks-noticed = noticed
+
+pub turned-up-shows : Differ W W″ 3 code shownCalls
 turned-up-shows = shows
+
+-- ---- the worked rows P1 to P14, as one table
+
+pub worked-rows : Worked
+worked-rows = worked
 
 -- ---- every contract allows one outcome; an answer tells its refusal; "A refused call changes nothing lent to it and returns the position it was given"
 

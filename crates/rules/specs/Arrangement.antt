@@ -4,11 +4,11 @@ use mathlib.Core.Logic.{_⊎_}
 use mathlib.Core.Path.{_≡_}
 use mathlib.Core.List.{List, [], _∷_}
 use Prim.Native.Nat.{ℕ, _+_, _<_}
-use lib.ListN.{getD}
+use lib.ListN.{length, getD}
 use Rattle.rules.specs.declared.Position.{Position}
 use Rattle.rules.specs.Bits.{num, times}
 use Rattle.rules.specs.Cards.{liesOn, isKing}
-use Rattle.rules.specs.Places.{hasHead, head, isVisible}
+use Rattle.rules.specs.Places.{hasHead, head, isVisible, isFree}
 
 -- how often c stands in the columns
 unfoldable pub timesIn : ℕ → List (List ℕ) → ℕ
@@ -29,9 +29,19 @@ Starts P (a ∷ l) = P a
 unfoldable pub column : List (List ℕ) → ℕ → List ℕ
 column cols i = getD cols i []
 
--- heads first in their own columns, kings first in the others or nothing at all, chains, and every visible card once
+-- "free kings"
+abbrev pub FreeKing : Position → ℕ → Type 0
+FreeKing p c = (isKing c ≡ true) × (isFree p c ≡ true)
+
+-- the columns are an arrangement of the visible cards of p
 pub record Arrangement (p : Position) (cols : List (List ℕ)) : Type 0 where
+  -- "Seven lengths come back": one column for each pile
+  pub seven : length cols ≡ 7
+  -- "a pile with a head starts there"
   pub heads : (i : ℕ) → i < 7 → hasHead p i ≡ true → Starts (λ c. c ≡ head p i) (column cols i)
-  pub others : (i : ℕ) → i < 7 → hasHead p i ≡ false → (column cols i ≡ []) ⊎ Starts (λ c. isKing c ≡ true) (column cols i)
+  -- "other piles take free kings": they start with one, or are empty
+  pub others : (i : ℕ) → i < 7 → hasHead p i ≡ false → (column cols i ≡ []) ⊎ Starts (FreeKing p) (column cols i)
+  -- "A card lies on either card of the pair four higher, and on no other card"
   pub chains : (i : ℕ) → i < 7 → Chain (column cols i)
+  -- "Every visible card is shown exactly once", and no other card
   pub once : (c : ℕ) → timesIn c cols ≡ num (isVisible p c)
