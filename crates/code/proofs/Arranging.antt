@@ -12,9 +12,8 @@ use Rattle.bits.proofs.Algebra.{and-masks, or-masks, and-not-masks}
 use Rattle.bits.proofs.Tables.{table}
 use Rattle.rules.specs.declared.Position.{Position}
 use Rattle.rules.specs.Bits.{anyOf, allOf}
-use Rattle.rules.specs.Places.{count, height, cardAt, pileCard, deckCard, isBuried, hasHead, head, isHead, isVisible, isFree, inDeck, onFoundation}
+use Rattle.rules.specs.Places.{isBuried, isHead, isVisible, isFree, inDeck, onFoundation}
 use Rattle.rules.specs.Proper.{pairRule, sevenRule}
-use Rattle.rules.specs.Fields.{withVisible}
 use Rattle.rules.specs.Code.{workedOut}
 use Rattle.rules.specs.Refusals.{_refuses_else_, overlapping, unarranged}
 use Rattle.rules.specs.Answers.{overlaps}

@@ -14,11 +14,11 @@ use Rattle.bits.proofs.Laws.{mask-lt}
 use Rattle.bits.proofs.Algebra.{mask-self, or-masks}
 use Rattle.rules.specs.declared.Position.{Position}
 use Rattle.rules.specs.Bits.{anyOf}
-use Rattle.rules.specs.Places.{count, height, inDeck, isVisible, onFoundation, stockCard}
+use Rattle.rules.specs.Places.{count, inDeck, isVisible, onFoundation, stockCard}
 use Rattle.rules.specs.Proper.{areCards}
 use Rattle.rules.specs.Foundations.{validOn, fieldOn, stackedOn}
 use Rattle.rules.specs.Play.{slots}
-use Rattle.rules.specs.Code.{heightField, countsField, pileField, deckField, storedOffset, code, codeHeight, codeCount, codeHas, codeLeft, codeOffset, table, deckOf, codeParts}
+use Rattle.rules.specs.Code.{countsField, deckField, storedOffset, code, codeHeight, codeCount, codeHas, codeLeft, codeOffset, table, deckOf, codeParts}
 use Rattle.bits.proofs.Searches.{all-ext, count-ext, list-ext, count-le}
 use Rattle.rules.proofs.SameList.{getD-table}
 use Rattle.rules.proofs.ProperMade.{Numbers, any-none}

@@ -8,7 +8,6 @@ use lib.ListN.{length, getD, take, drop, replicate, length-drop}
 use lib.Seq.{take-at, length-take-le}
 use Rattle.rules.specs.declared.Position.{Position}
 use Rattle.rules.specs.Bits.{maskOf}
-use Rattle.rules.specs.Places.{pileCard, cardAt, count, hasHead, head, isHead}
 use Rattle.rules.specs.Play.{slots}
 use Rattle.rules.specs.Fields.{withCounts, withSlots, withVisible}
 use Rattle.rules.specs.Code.{table, freshParts, fresh}

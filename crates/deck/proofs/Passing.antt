@@ -14,7 +14,7 @@ use borrow.Author.Tests.{eqb-true, eq-eqb, ne-eqb, ltb-true, ltb-false, lt-ltb, 
 use Rattle.bits.proofs.Tables.{T-true}
 use Rattle.rules.specs.declared.Position.{Position}
 use Rattle.rules.specs.Bits.{num, anyOf, countOf, firstOf}
-use Rattle.rules.specs.Places.{cardAt, stockCard, deckCard, inDeck}
+use Rattle.rules.specs.Places.{inDeck}
 use Rattle.rules.specs.Proper.{proper, deckRight, strike, inOrder}
 use Rattle.rules.specs.Answers.{stockPlace, findPlace}
 use Rattle.bits.proofs.Searches.{and-left, and-right, and-both, any-yes, yes-any, first-yes, first-least, count-snoc, is-false}

@@ -15,7 +15,6 @@ use Rattle.bits.proofs.Laws.{mask-ext}
 use Rattle.bits.proofs.Algebra.{or-masks}
 use Rattle.rules.specs.declared.Position.{Position}
 use Rattle.rules.specs.Bits.{anyOf}
-use Rattle.rules.specs.Places.{deckCard}
 use Rattle.rules.specs.Dealing.{available, availableSoon, placeAvailable, placeSoon}
 use Rattle.bits.proofs.Searches.{any-ext, and-left, and-right, and-both, or-left, or-right}
 use Rattle.rules.proofs.ProperLaw.{any-or}

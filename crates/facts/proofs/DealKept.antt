@@ -10,9 +10,8 @@ use lib.ListN.{getD}
 use borrow.Author.Tests.{ltb-true}
 use Rattle.rules.specs.declared.Position.{Position}
 use Rattle.rules.specs.Bits.{anyOf, firstOf}
-use Rattle.rules.specs.Places.{pileStart, cardAt, pileCard, count, hasHead, head, isHead, pileOf}
-use Rattle.rules.specs.Play.{withDeck, raised, lowered, laid, lifted, drawn, uncovered, after}
-use Rattle.rules.specs.Fields.{withVisible, withHeights, withCounts}
+use Rattle.rules.specs.Places.{pileStart, pileCard, count, isHead, pileOf}
+use Rattle.rules.specs.Play.{raised, lowered, laid, lifted, drawn, uncovered, after}
 use Rattle.bits.proofs.Searches.{and-left, and-right, any-yes, yes-any, first-least}
 use Rattle.rules.proofs.ProperLaw.{Fits}
 use Rattle.rules.proofs.UndoLaw.{same-either}

@@ -11,10 +11,10 @@ use lib.Seq.{take-take, split-at, getD-take, getD-drop, length-take-le}
 use borrow.Author.Tests.{eqb-true, eqb-false, eq-eqb, ne-eqb, le-ltb}
 use Rattle.rules.specs.declared.Position.{Position}
 use Rattle.rules.specs.Bits.{num, firstOf, times}
-use Rattle.rules.specs.Places.{cardAt, deckCard, inDeck}
+use Rattle.rules.specs.Places.{deckCard, inDeck}
 use Rattle.rules.specs.Proper.{dealRight, inOrder, deckRight}
 use Rattle.rules.specs.Dealing.{available, placeAvailable}
-use Rattle.rules.specs.Play.{withDeck, deckPlace, drawn}
+use Rattle.rules.specs.Play.{deckPlace, drawn}
 use Rattle.bits.proofs.Searches.{and-left, any-yes, yes-any, first-yes, first-least}
 use Rattle.rules.proofs.DealLaw.{one-card}
 use Rattle.rules.proofs.Among.{any-front, among-times}

@@ -7,11 +7,11 @@ use lib.Dec.{eqb}
 use lib.ListN.{length}
 use Rattle.rules.specs.declared.Position.{Position}
 use Rattle.rules.specs.Bits.{num}
-use Rattle.rules.specs.Places.{pileCard, cardAt, count, isHead, isBuried, isVisible, inDeck, onFoundation, pileOf}
+use Rattle.rules.specs.Places.{isHead, isBuried, isVisible, inDeck, onFoundation, pileOf}
 use Rattle.rules.specs.Dealing.{available}
 use Rattle.rules.specs.Legal.{isNext, isTop}
-use Rattle.rules.specs.Play.{withDeck, raised, lowered, laid, lifted, drawn, uncovered}
-use Rattle.rules.specs.Fields.{withDeal, withCounts, withVisible, withHeights}
+use Rattle.rules.specs.Play.{raised, lowered, laid, lifted, drawn, uncovered}
+use Rattle.rules.specs.Fields.{withDeal, withCounts}
 use Rattle.rules.specs.Proper.{Shaped}
 use Rattle.rules.proofs.Facts.{Facts, sets}
 use Rattle.rules.proofs.Placed.{HeadOf, head-of}

@@ -12,10 +12,9 @@ use borrow.Author.Tests.{eqb-true, eqb-false, eq-eqb, ne-eqb, lt-ltb, le-ltb}
 use Rattle.rules.specs.declared.Position.{Position}
 use Rattle.rules.specs.Bits.{num, anyOf, countOf}
 use Rattle.rules.specs.Cards.{rank, suit}
-use Rattle.rules.specs.Places.{cardAt, pileCard, stockCard, deckCard, count, height, hasHead, head, isHead, isBuried, isVisible, inDeck, onFoundation, freeIn}
+use Rattle.rules.specs.Places.{pileCard, stockCard, deckCard, count, height, isHead, isBuried, isVisible, inDeck, onFoundation, freeIn}
 use Rattle.rules.specs.Proper.{areCards, areDifferent, dealRight, inOrder, deckRight, proper, Shaped}
 use Rattle.rules.specs.Play.{slots}
-use Rattle.rules.specs.Fields.{withVisible}
 use Rattle.rules.specs.Code.{table, freshParts, fresh}
 use Rattle.rules.specs.Answers.{dealRefusal, dealAnswer}
 use Rattle.bits.proofs.Searches.{and-both, any-yes, yes-any, is-false}

@@ -8,12 +8,11 @@ use borrow.Author.Tests.{eqb-true}
 use Rattle.rules.specs.declared.Position.{Position}
 use Rattle.rules.specs.Bits.{num}
 use Rattle.rules.specs.Cards.{pair, isKing}
-use Rattle.rules.specs.Places.{count, isHead, isBuried, isVisible, inDeck, onFoundation, pileOf, isBase}
+use Rattle.rules.specs.Places.{isHead, isBuried, isVisible, inDeck, onFoundation, pileOf, isBase}
 use Rattle.rules.specs.Proper.{dealRight, deckRight, proper, Shaped}
 use Rattle.rules.specs.Dealing.{available}
 use Rattle.rules.specs.Legal.{isOpen, hasRoom, isNext, isTop, pileStackLegal, deckStackLegal, deckPileLegal, stackPileLegal, revealLegal, legal}
-use Rattle.rules.specs.Play.{withDeck, raised, lowered, laid, lifted, drawn, uncovered, after}
-use Rattle.rules.specs.Fields.{withVisible, withHeights}
+use Rattle.rules.specs.Play.{raised, lowered, laid, lifted, drawn, uncovered, after}
 use Rattle.rules.specs.History.{isKindAndCard}
 use Rattle.rules.specs.Demands.{MovesKeepProper}
 use Rattle.bits.proofs.Searches.{and-left, and-right}

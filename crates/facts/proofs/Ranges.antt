@@ -12,7 +12,7 @@ use Rattle.rules.specs.Foundations.{raisedOn, loweredOn}
 use Rattle.rules.specs.Proper.{dealRight}
 use Rattle.rules.specs.Legal.{nextOn, isNext, isTop}
 use Rattle.rules.specs.Play.{raised, lowered, laid, lifted, drawn, uncovered}
-use Rattle.rules.specs.Fields.{withCounts, withVisible, withHeights}
+use Rattle.rules.specs.Fields.{withCounts}
 use Rattle.rules.proofs.ProperLaw.{Fits}
 use Rattle.rules.proofs.ProperMade.{Numbers, with-counts, with-heights, with-deck, with-visible}
 use Rattle.facts.proofs.Foundation.{put, put-fits, rank-low}

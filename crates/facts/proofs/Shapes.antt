@@ -9,8 +9,7 @@ use Rattle.rules.specs.declared.Position.{Position}
 use Rattle.rules.specs.Cards.{suit}
 use Rattle.rules.specs.Places.{count, height, isHead, pileOf}
 use Rattle.rules.specs.Foundations.{raisedOn, loweredOn}
-use Rattle.rules.specs.Play.{withDeck, raised, lowered, laid, lifted, deckPlace, drawn, putBack, uncovered, covered, after, before}
-use Rattle.rules.specs.Fields.{withVisible, withHeights}
+use Rattle.rules.specs.Play.{raised, lowered, laid, lifted, deckPlace, drawn, putBack, uncovered, covered, after, before}
 use Rattle.rules.specs.Proper.{Shaped}
 use Rattle.facts.proofs.Deck.{slots-length}
 use Rattle.facts.proofs.TurnedFields.{Stays, uncovered-stays}

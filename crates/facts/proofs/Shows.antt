@@ -6,7 +6,6 @@ use lib.Dec.{eqb}
 use Rattle.rules.specs.declared.Position.{Position}
 use Rattle.rules.specs.Places.{isVisible}
 use Rattle.rules.specs.Play.{laid, lifted}
-use Rattle.rules.specs.Fields.{withVisible}
 use Rattle.facts.proofs.MaskBits.{with-bit, with-low, without-bit, without-low}
 
 pub laid-has : (p : Position) (c x : ℕ) → x < 52 → isVisible (laid p c) x ≡ (isVisible p x || eqb x c)

@@ -10,7 +10,7 @@ use lib.ListN.{getD}
 use borrow.Author.Tests.{eqb-true, eqb-false, eq-eqb, ne-eqb, lt-ltb, le-ltb, ltb-true, ltb-false}
 use Rattle.rules.specs.declared.Position.{Position}
 use Rattle.rules.specs.Bits.{num, countOf}
-use Rattle.rules.specs.Places.{pileStart, pileCard, stockCard, cardAt, count, hasHead, isHead, isBuried}
+use Rattle.rules.specs.Places.{pileStart, pileCard, stockCard, count, hasHead, isHead, isBuried}
 use Rattle.rules.specs.Proper.{areCards, areDifferent, dealRight}
 use Rattle.bits.proofs.Searches.{num-le}
 use Rattle.rules.proofs.Facts.{headCount}

@@ -10,7 +10,7 @@ use lib.Seq.{set-set, set-getD}
 use borrow.Author.Tests.{lt-ltb, le-ltb, ltb-true, ltb-false}
 use Rattle.rules.specs.declared.Position.{Position}
 use Rattle.rules.specs.Bits.{without}
-use Rattle.rules.specs.Places.{pileStart, pileCard, cardAt, count, isVisible}
+use Rattle.rules.specs.Places.{pileStart, pileCard, count, isVisible}
 use Rattle.rules.specs.Play.{lifted, covered}
 use Rattle.rules.specs.Fields.{withCounts}
 use Rattle.facts.proofs.Shows.{lifted-has, lifted-low}

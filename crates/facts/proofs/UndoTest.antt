@@ -4,7 +4,6 @@ use mathlib.Core.Bool.{Bool, true, _&&_}
 use mathlib.Core.Path.{_≡_, sym, ap, _∙_}
 use Prim.Native.Nat.{ℕ}
 use lib.Dec.{eqb}
-use lib.ListN.{take}
 use Rattle.rules.specs.declared.Position.{Position}
 use Rattle.rules.specs.Bits.{sameList}
 use Rattle.rules.specs.Proper.{proper}
@@ -12,7 +11,7 @@ use Rattle.rules.specs.Legal.{legal}
 use Rattle.rules.specs.Play.{after, undoByte}
 use Rattle.rules.specs.History.{isKindAndCard, sameDeck, sameInDeal, samePosition, entryByte, entryKind, entryCard, stepBack, undoable}
 use Rattle.bits.proofs.Searches.{and-left, and-right, and-both}
-use Rattle.rules.proofs.SameList.{same-list, list-same}
+use Rattle.rules.proofs.SameList.{list-same}
 use Rattle.facts.proofs.Veil.{bare}
 
 -- q passes for the position before p, by the entry x

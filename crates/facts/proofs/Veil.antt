@@ -7,7 +7,7 @@ use Prim.Native.Nat.{ℕ, _<_}
 use Rattle.rules.specs.declared.Position.{Position}
 use Rattle.rules.specs.Bits.{table}
 use Rattle.rules.specs.Fields.{withDeal}
-use Rattle.rules.specs.Places.{cardAt, count, placeBuried}
+use Rattle.rules.specs.Places.{cardAt, placeBuried}
 use Rattle.rules.proofs.PileField.{table-ext}
 use Rattle.rules.specs.Hidden.{buriedAt}
 

@@ -4,22 +4,20 @@ use mathlib.Core.Bool.{Bool, true, false, _&&_, _||_}
 use mathlib.Core.Path.{_≡_, refl, sym, ap, ap₂, _∙_}
 use mathlib.Core.List.{List}
 use Prim.Native.Nat.{ℕ, _+_, _-_, _*_, _%_, _^_, _≤_, _<_}
-use native.Mathlib.Nat.{one-mul}
 use native.Mathlib.Omega.{arith}
 use lib.Dec.{eqb, lit≤}
 use lib.ListN.{getD}
-use lib.Bits.{bitAnd, bitOr, and-mask}
+use lib.Bits.{bitOr}
 use mir.Val.{boolByte}
 use borrow.Author.Tests.{ne-eqb}
-use Rattle.bits.specs.Bit.{bit, maskOf}
-use Rattle.bits.proofs.Laws.{bit-or, bit-mask, bit-mod, mask-is, mask-lt, mask-ext, mod-64, or-small}
-use Rattle.bits.proofs.Counts.{bit-card}
+use Rattle.bits.specs.Bit.{maskOf}
+use Rattle.bits.proofs.Laws.{mask-is, mask-ext, mod-64}
 use Rattle.bits.proofs.Algebra.{or-masks, mask-cut}
 use Rattle.card.proofs.Gathering.{bit-shifted}
 use Rattle.rules.specs.Bits.{anyOf}
 use Rattle.rules.specs.Places.{pileStart}
 use Rattle.rules.specs.Hidden.{CardsFit, placed, cardsFrom}
-use Rattle.bits.proofs.Searches.{any-ext, eqb-sym}
+use Rattle.bits.proofs.Searches.{any-ext}
 use Rattle.bits.proofs.Steps.{any-more}
 use Rattle.rules.proofs.ProperMade.{none-any}
 use Rattle.rules.proofs.PilePlaces.{pile-low, pile-place}

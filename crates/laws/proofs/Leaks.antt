@@ -25,15 +25,15 @@ use Rattle.laws.proofs.Games.{givenOf}
 use Rattle.laws.proofs.NotVacuous.{W′, first, freshTable, calls, fresh-W, fresh-W′, code, late, resumedTable, callsThen, resumed-W, resumed-W′}
 
 -- the card right under the head of pile i; those of all the piles that have one
-unfoldable pub covered : Position → ℕ → ℕ
-covered p i = pileCard p i (count p i - 2)
+unfoldable pub underHead : Position → ℕ → ℕ
+underHead p i = pileCard p i (count p i - 2)
 
 unfoldable pub coveredCards : Position → List ℕ
-coveredCards p = map (covered p) (listOf 7 0 (λ i. ltb 1 (count p i)))
+coveredCards p = map (underHead p) (listOf 7 0 (λ i. ltb 1 (count p i)))
 
 -- that card is next on its foundation
 unfoldable pub wanted : Position → ℕ → Bool
-wanted p i = ltb 1 (count p i) && isNext p (covered p i)
+wanted p i = ltb 1 (count p i) && isNext p (underHead p i)
 
 -- the cards face down fall in rank in each pile, from the base up: none lies in the way of one that goes up before it
 unfoldable pub falls : Position → Bool
@@ -158,11 +158,11 @@ Leak s cs l = (leaksIn W s cs ≡ lefts l) × (leaksIn W′ s cs ≡ rights l)
 
 -- computed over the tables' positions
 fresh-told : (leaksOver (first W ∷ givenOf (freshTable W)) calls ≡ lefts freshLeaks) × (leaksOver (first W′ ∷ givenOf (freshTable W′)) calls ≡ rights freshLeaks)
-unfolding rules W′ freshTable calls leaksFrom leak covered coveredCards wanted falls checksum among freshLeaks
+unfolding rules W′ freshTable calls leaksFrom leak underHead coveredCards wanted falls checksum among freshLeaks
 fresh-told = (refl, refl)
 
 resumed-told : (leaksOver (late W ∷ givenOf (resumedTable W)) callsThen ≡ lefts resumedLeaks) × (leaksOver (late W′ ∷ givenOf (resumedTable W′)) callsThen ≡ rights resumedLeaks)
-unfolding rules W′ resumedTable callsThen leaksFrom leak covered coveredCards wanted falls checksum among resumedLeaks
+unfolding rules W′ resumedTable callsThen leaksFrom leak underHead coveredCards wanted falls checksum among resumedLeaks
 resumed-told = (refl, refl)
 
 pub leaks-fresh : Leak dealtFresh calls freshLeaks

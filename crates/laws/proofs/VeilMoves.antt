@@ -8,7 +8,7 @@ use lib.Dec.{eqb, ltb}
 use borrow.Author.Tests.{eqb-true, lt-ltb}
 use Rattle.rules.specs.declared.Position.{Position}
 use Rattle.rules.specs.Cards.{pair, higher, isKing}
-use Rattle.rules.specs.Places.{stockCard, inDeck, count, height, hasHead, head, isHead, isBase, alone}
+use Rattle.rules.specs.Places.{stockCard, inDeck, count, hasHead, head, isHead, isBase, alone}
 use Rattle.facts.proofs.Veil.{veil}
 use Rattle.rules.specs.Legal.{isOpen, hasRoom, pileStackLegal, deckStackLegal, deckPileLegal, stackPileLegal, revealLegal, unpruned, legal}
 use Rattle.rules.specs.Code.{code, heightField, pileField, deckField, storedOffset, countsField}

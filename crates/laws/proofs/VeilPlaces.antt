@@ -8,7 +8,7 @@ use lib.Dec.{eqb}
 use lib.ListN.{getD}
 use Rattle.rules.specs.declared.Position.{Position}
 use Rattle.rules.specs.Cards.{cardOf, flipped}
-use Rattle.rules.specs.Places.{pileStart, cardAt, pileCard, stockCard, inDeck, count, height, deckCard, hasHead, head, isHead, isVisible, isFree, placeBuried, visibleIn, freeIn, headsAndKings}
+use Rattle.rules.specs.Places.{pileStart, cardAt, stockCard, inDeck, count, hasHead, head, isHead, isVisible, isFree, placeBuried, visibleIn, freeIn, headsAndKings}
 use Rattle.facts.proofs.Veil.{veil}
 use Rattle.rules.specs.Dealing.{available, placeAvailable}
 use Rattle.rules.specs.Legal.{isNext, isTop}

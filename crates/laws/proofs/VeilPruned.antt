@@ -8,7 +8,7 @@ use Rattle.rules.specs.declared.Position.{Position}
 use Rattle.rules.specs.declared.Masks.{Masks}
 use Rattle.rules.specs.Bits.{bit, maskOf, anyOf}
 use Rattle.rules.specs.Cards.{suit, partner, isKing}
-use Rattle.rules.specs.Places.{height, deckCard, isHead, isBase, isVisible, isFree}
+use Rattle.rules.specs.Places.{isHead, isBase, isVisible, isFree}
 use Rattle.facts.proofs.Veil.{veil}
 use Rattle.rules.specs.Dealing.{available, placeAvailable, availableSoon, placeSoon}
 use Rattle.rules.specs.Legal.{hasRoom, isNext, pileStackLegal, unpruned}

@@ -15,7 +15,7 @@ use Rattle.bits.proofs.Algebra.{mask-and, and-masks, and-not-masks, shr-mask}
 use Rattle.rules.specs.declared.Position.{Position}
 use Rattle.rules.specs.declared.Masks.{Masks}
 use Rattle.rules.specs.Cards.{pair, isKing, rank, suit, flipped}
-use Rattle.rules.specs.Places.{isHead, isBase, isVisible, height, alone}
+use Rattle.rules.specs.Places.{isHead, isBase, isVisible, alone}
 use Rattle.rules.specs.Dealing.{available}
 use Rattle.rules.specs.Legal.{isOpen, hasRoom, isNext, nextOn, isTop, revealLegal, pileStackLegal, deckPileLegal, deckStackLegal, stackPileLegal, unpruned}
 use Rattle.rules.specs.Proper.{proper}

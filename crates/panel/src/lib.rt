@@ -9,6 +9,7 @@ ghost use Rattle.panel.specs.Crossing.{numbersOf};
 ghost use Rattle.panel.specs.Calls.{deal, resume, save, masks, test, listInto, list, listCount, move, undo, win, sureWin, ladder, heights, deck, find, offset, faceUp, dealOnce, dealOnceLent, answer, lent};
 use rules::Compared;
 use rules::Cursor;
+use rules::DealtOnce;
 use rules::DeckView;
 use rules::Heights;
 use rules::Listed;
@@ -20,7 +21,6 @@ use rules::Position;
 use rules::Saved;
 use rules::Started;
 use rules::Told;
-use rules::DealtOnce;
 use rules::TurnedUp;
 use rules::Undone;
 

@@ -13,7 +13,7 @@ use Rattle.bits.proofs.Laws.{bit-mask, bit-high, mask-lt}
 use Rattle.bits.proofs.Counts.{list-ext}
 use Rattle.rules.specs.declared.Position.{Position}
 use Rattle.rules.specs.Cards.{partner, cardOf}
-use Rattle.rules.specs.Places.{pileStart, pileCard, cardAt, count, head, isVisible, isLocked, isFree}
+use Rattle.rules.specs.Places.{pileStart, count, head, isVisible, isLocked, isFree}
 use Rattle.rules.specs.Proper.{proper}
 use Rattle.rules.specs.Piles.{tried, run, freeKings, firstRun}
 use Rattle.rules.proofs.Facts.{facts}

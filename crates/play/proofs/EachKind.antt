@@ -5,9 +5,8 @@ use mathlib.Core.Path.{_≡_, refl}
 use Prim.Native.Nat.{ℕ, _-_}
 use Rattle.rules.specs.declared.Position.{Position}
 use Rattle.rules.specs.declared.TurnedUp.the-variants.{Nothing}
-use Rattle.rules.specs.Places.{count, pileCard, cardAt, deckCard, isHead, pileOf}
-use Rattle.rules.specs.Play.{raised, lowered, laid, lifted, drawn, uncovered, under, withDeck, deckPlace, after, undoByte, turnedUp}
-use Rattle.rules.specs.Fields.{withVisible, withHeights}
+use Rattle.rules.specs.Places.{isHead, pileOf}
+use Rattle.rules.specs.Play.{raised, lowered, laid, lifted, drawn, deckPlace, after, undoByte, turnedUp}
 use Rattle.play.specs.Made.{made, turnedAt}
 use Rattle.rules.specs.Hidden.{underIn}
 

@@ -11,8 +11,7 @@ use Rattle.rules.specs.declared.TurnedUp.the-variants.{Nothing}
 use Rattle.rules.specs.Hidden.{headPile, barePile}
 use Rattle.rules.specs.Legal.{legal}
 use Rattle.rules.specs.Proper.{proper}
-use Rattle.rules.specs.Play.{raised, lowered, laid, lifted, drawn, putBack, covered, withDeck, before}
-use Rattle.rules.specs.Fields.{withVisible, withHeights}
+use Rattle.rules.specs.Play.{raised, lowered, laid, lifted, drawn, putBack, covered, before}
 use Rattle.play.specs.declared.Made.{Made}
 use Rattle.play.specs.Made.{made, turnedAt, hasWay}
 use Rattle.play.proofs.Known.{head-at, no-head, is-head, reveal-head, bare-at, pile-stack-way, reveal-way}

@@ -10,7 +10,7 @@ use borrow.Author.Tests.{ltb-true, ne-eqb}
 use Rattle.bits.proofs.Tables.{T-true, true-T}
 use Rattle.rules.specs.declared.Position.{Position}
 use Rattle.rules.specs.Cards.{suit}
-use Rattle.rules.specs.Places.{count, height, isHead, inDeck, pileOf}
+use Rattle.rules.specs.Places.{isHead, inDeck, pileOf}
 use Rattle.rules.specs.Hidden.{CountsFit, headPile, barePile}
 use Rattle.rules.specs.Proper.{proper}
 use Rattle.rules.specs.Dealing.{available}

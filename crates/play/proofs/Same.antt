@@ -1,16 +1,15 @@
 -- Comparing two positions: the bytes of two lists, and that of two positions of one deal the deal need not be compared.
 -- Assumes nothing.
 use mathlib.Core.Bool.{Bool, true, false, _&&_}
-use mathlib.Core.Path.{_≡_, refl, sym, ap, _∙_}
+use mathlib.Core.Path.{_≡_, sym, ap, _∙_}
 use mathlib.Core.List.{List}
 use Prim.Native.Nat.{ℕ, _≤_, _<_}
 use native.Mathlib.Omega.{arith}
-use lib.Dec.{eqb}
 use lib.ListN.{length, getD, take}
 use lib.Seq.{length-take-le, getD-take, ext-getD}
 use Rattle.rules.specs.declared.Position.{Position}
 use Rattle.rules.specs.Bits.{sameList}
-use Rattle.rules.specs.History.{samePosition, sameDeck, sameInDeal}
+use Rattle.rules.specs.History.{samePosition, sameInDeal}
 use Rattle.bits.proofs.Searches.{is-false}
 use Rattle.rules.proofs.SameList.{same-list, list-same}
 

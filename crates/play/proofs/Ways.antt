@@ -11,13 +11,12 @@ use lib.Seq.{getD-set-same}
 use borrow.Author.Tests.{eqb-true, eqb-false, eq-eqb, lt-ltb, le-leb}
 use Rattle.rules.specs.declared.Position.{Position}
 use Rattle.rules.specs.Bits.{num, firstOf}
-use Rattle.rules.specs.Places.{pileStart, cardAt, pileCard, count, isHead, pileOf}
+use Rattle.rules.specs.Places.{pileStart, pileCard, count, isHead, pileOf}
 use Rattle.rules.specs.Hidden.{bareOf, barePile}
 use Rattle.rules.specs.Proper.{proper}
 use Rattle.rules.specs.Legal.{legal, revealLegal, hasRoom}
 use Rattle.rules.specs.History.{entryByte, entryKind, entryCard, isKindAndCard, samePosition, stepBack, undoable}
-use Rattle.rules.specs.Play.{lowered, laid, lifted, putBack, covered, withDeck, before, after, undoByte}
-use Rattle.rules.specs.Fields.{withHeights, withVisible}
+use Rattle.rules.specs.Play.{lowered, laid, lifted, putBack, covered, before, after, undoByte}
 use Rattle.bits.proofs.Searches.{and-left, and-both, first-least, is-false}
 use Rattle.rules.proofs.Facts.{Facts, facts-of as facts}
 use Rattle.facts.proofs.DealKept.{pileOf-deal}

@@ -9,9 +9,9 @@ use Rattle.rules.specs.declared.Position.{Position}
 use Rattle.rules.specs.declared.TurnedUp.the-variants.{Emptied, Card}
 use Rattle.rules.specs.Bits.{with, without}
 use Rattle.rules.specs.Cards.{suit}
-use Rattle.rules.specs.Places.{count, pileCard}
+use Rattle.rules.specs.Places.{pileCard}
 use Rattle.rules.specs.Foundations.{raisedOn, loweredOn}
-use Rattle.rules.specs.Play.{slots, drawAt, pushAt, deckPlace, raised, lowered, laid, lifted, drawn, putBack, uncovered, covered, under, withDeck}
+use Rattle.rules.specs.Play.{slots, drawAt, pushAt, deckPlace, raised, lowered, laid, lifted, drawn, putBack, uncovered, covered}
 use Rattle.rules.specs.Fields.{withCounts, withHeights, withSlots, withOffset, withVisible}
 use Rattle.play.specs.Made.{turnedAt}
 use Rattle.rules.specs.Hidden.{underIn}

@@ -1,7 +1,7 @@
 // The position and the history that the records' calls act on, and the answer to the record at hand.
 // It goes from function to function by value: that proves faster than lent memory.
-use deal::blank;
 use crate::same::same;
+use deal::blank;
 use replay_bytes::Answer;
 use rules::Position;
 use rules::Started;

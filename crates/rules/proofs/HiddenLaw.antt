@@ -12,12 +12,11 @@ use borrow.Author.Tests.{eqb-true, eq-eqb, ltb-true, lt-ltb, leb-true, le-leb}
 use Rattle.rules.specs.declared.Position.{Position}
 use Rattle.rules.specs.declared.TurnedUp.{TurnedUp}
 use Rattle.rules.specs.declared.TurnedUp.the-variants.{Nothing, Emptied, Card}
-use Rattle.rules.specs.Bits.{allOf, firstOf}
-use Rattle.rules.specs.Places.{cardAt, pileCard, count, hasHead, head, isHead, isBuried, isLocked, isBase, pileOf}
-use Rattle.rules.specs.Code.{countsField, pileField, fieldCount, codeCount, codePiles, table}
-use Rattle.rules.specs.Play.{laid, lifted, uncovered, covered, under}
+use Rattle.rules.specs.Bits.{firstOf}
+use Rattle.rules.specs.Places.{pileCard, count, isHead, pileOf}
+use Rattle.rules.specs.Play.{laid, lifted, uncovered, covered}
 use Rattle.rules.specs.Fields.{withCounts}
-use Rattle.rules.specs.Hidden.{placed, headOf, bareOf, headIn, buriedIn, lockedIn, baseIn, headPile, barePile, oneLess, oneMore, underIn, coveredIn, allUp}
+use Rattle.rules.specs.Hidden.{placed, headOf, bareOf, headIn, headPile, barePile, oneLess, oneMore, underIn, coveredIn}
 use Rattle.bits.proofs.Searches.{and-left, and-right, and-both, any-yes, yes-any, first-yes}
 use Rattle.bits.proofs.Steps.{first-at, first-none}
 use Rattle.rules.proofs.Placed.{pile-of}

@@ -2,7 +2,6 @@
 -- Assumes nothing.
 use borrow.Author.Needs.{needs}
 use Rattle.bits.proofs.Tables.{T-true}
-use Rattle.rules.specs.Places.{count, height}
 use Rattle.rules.specs.Proper.{proper}
 use Rattle.rules.proofs.ProperLaw.{parts}
 use Rattle.rules.proofs.ProperMade.{Numbers, numbers, step-low}

@@ -4,7 +4,7 @@ use borrow.Author.Needs.{needs}
 use mathlib.Core.Path.{_≡_, _∙_}
 use native.Mathlib.Omega.{arith}
 use Rattle.rules.specs.Bits.{maskOf}
-use Rattle.rules.specs.Places.{count, height, cardAt, pileCard, deckCard, isBuried, hasHead, head, isHead, inDeck, onFoundation}
+use Rattle.rules.specs.Places.{inDeck}
 use Rattle.rules.proofs.Shape.{shape}
 use Rattle.rules.specs.Hidden.{buriedIn, headIn}
 use Rattle.proper.proofs.Sets.{cards-are}

@@ -1,7 +1,6 @@
 -- `deal::blank` meets its contract.
 -- Assumes nothing.
 use mathlib.Core.Path.{refl}
-use Rattle.rules.specs.Fields.{blank}
 use Rattle.deal.proofs.blank.Statement.{statement}
 use Rattle.deal.proofs.blank.Tie as tie
 

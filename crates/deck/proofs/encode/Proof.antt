@@ -9,7 +9,7 @@ use lib.Bits.{bitAnd, bitOr, and-le-r}
 use lib.ListN.{getD}
 use Rattle.bits.proofs.Laws.{bit-mask, bit-not, has-shr, mask-ext, mask-lt}
 use Rattle.rules.specs.Bits.{num, bit, maskOf}
-use Rattle.rules.specs.Places.{cardAt, stockCard, isVisible, onFoundation}
+use Rattle.rules.specs.Places.{isVisible, onFoundation}
 use Rattle.rules.specs.Code.{deckField}
 use Rattle.rules.proofs.Facts.{facts}
 use Rattle.deck.proofs.Fields.{no-places, put-first, still-there}

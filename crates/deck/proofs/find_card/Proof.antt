@@ -7,7 +7,7 @@ use lib.Dec.{eqb}
 use lib.ListN.{getD}
 use borrow.Author.Count.{below-more}
 use Rattle.rules.specs.Bits.{anyOf}
-use Rattle.rules.specs.Places.{inDeck, deckCard}
+use Rattle.rules.specs.Places.{inDeck}
 use Rattle.rules.proofs.Shape.{shape}
 use Rattle.deck.proofs.Passing.{byte-le, Right, right, Walk, walk-start, walk-step, found-at, nowhere}
 use borrow.Author.Needs.{needs}

@@ -1,6 +1,5 @@
 -- `legal::look` meets its contract.
 -- Assumes nothing.
-use Rattle.rules.specs.Places.{height}
 use Rattle.rules.specs.Legal.{isNext}
 use Rattle.rules.proofs.Facts.{facts}
 use Rattle.legal.specs.Sight.{sight}

@@ -13,7 +13,7 @@ use borrow.Author.Tests.{lt-ltb}
 use borrow.Rule.Slice.PartMut.{mid-len}
 use Rattle.bits.specs.Bit.{maskOf}
 use Rattle.rules.specs.declared.Position.{Position}
-use Rattle.rules.specs.Places.{pileStart, pileCard, cardAt, count, hasHead, head, isFree}
+use Rattle.rules.specs.Places.{pileStart, isFree}
 use Rattle.rules.specs.Proper.{proper}
 use Rattle.rules.proofs.Facts.{facts}
 use Rattle.rules.proofs.HeadsLaw.{head-low, free-mask}

@@ -10,7 +10,7 @@ use lib.ListN.{getD}
 use mir.Val.{boolByte}
 use Rattle.bits.proofs.Tables.{T-true}
 use Rattle.rules.specs.Legal.{legal}
-use Rattle.rules.specs.Places.{inDeck, pileStart, pileCard, cardAt, deckCard}
+use Rattle.rules.specs.Places.{inDeck, pileStart}
 use Rattle.rules.specs.Play.{deckPlace}
 use Rattle.rules.proofs.Facts.{facts}
 use Rattle.rules.proofs.Shape.{shape}

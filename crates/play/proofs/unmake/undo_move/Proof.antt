@@ -7,7 +7,7 @@ use Prim.Native.Nat.{ℕ, _+_, _-_, _≤_, _<_}
 use native.Mathlib.Omega.{arith}
 use lib.Dec.{T}
 use lib.ListN.{getD}
-use Rattle.rules.specs.Places.{pileStart, pileCard, cardAt}
+use Rattle.rules.specs.Places.{pileStart}
 use Rattle.rules.proofs.Facts.{facts}
 use Rattle.hidden_masks.proofs.Collected.{in-deal}
 use Rattle.play.specs.Made.{hasWay}
