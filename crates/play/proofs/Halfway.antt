@@ -35,15 +35,12 @@ module _ (p : Position) (c : ℕ) (kind : ℕ) where
   at-kind : (k : ℕ) → kind ≡ k → (m : Made) → m ≡ made p k c → m ≡ made p kind c
   at-kind k e m h = h ∙ sym (ap (λ (x : ℕ). made p x c) e)
 
-  pub from-deck-up : (q : Position) (byte pile : ℕ) → kind ≡ 0 → q ≡ raised (drawn p c) c → byte ≡ p .offset → pile ≡ 7 → Making q byte pile
-  unfolding raised drawn
-  from-deck-up q byte pile k e b l =
-      rw (e, b, l) (record { deal = refl; counts = refl; some = λ s. absurd (omega arith); none = λ s. at-kind 0 k _ (made-deck-stack p c) })
+  -- a card of the deck turns nothing up
+  pub from-deck-up : (q : Position) → kind ≡ 0 → q ≡ raised (drawn p c) c → record { position = q; byte = p .offset; turned = Nothing } ≡ made p kind c
+  from-deck-up q k e = rw e (at-kind 0 k _ (made-deck-stack p c))
 
-  pub from-deck : (q : Position) (byte pile : ℕ) → kind ≡ 2 → q ≡ laid (drawn p c) c → byte ≡ p .offset → pile ≡ 7 → Making q byte pile
-  unfolding laid drawn
-  from-deck q byte pile k e b l =
-      rw (e, b, l) (record { deal = refl; counts = refl; some = λ s. absurd (omega arith); none = λ s. at-kind 2 k _ (made-deck-pile p c) })
+  pub from-deck : (q : Position) → kind ≡ 2 → q ≡ laid (drawn p c) c → record { position = q; byte = p .offset; turned = Nothing } ≡ made p kind c
+  from-deck q k e = rw e (at-kind 2 k _ (made-deck-pile p c))
 
   pub from-stack : (q : Position) (byte pile : ℕ) → kind ≡ 3 → q ≡ laid (lowered p c) c → byte ≡ 0 → pile ≡ 7 → Making q byte pile
   unfolding laid lowered
@@ -83,15 +80,13 @@ module _ (p : Position) (byte c : ℕ) (kind : ℕ) where
   was-kind : (k : ℕ) → kind ≡ k → (q : Position) → q ≡ before p byte k c → q ≡ before p byte kind c
   was-kind k e q h = h ∙ sym (ap (λ (x : ℕ). before p byte x c) e)
 
-  pub to-deck-down : (q : Position) (pile : ℕ) → kind ≡ 0 → q ≡ putBack (lowered p c) c byte → pile ≡ 7 → Going q pile
-  unfolding before putBack lowered
-  to-deck-down q pile k e l =
-      rw (e, l) (record { deal = refl; counts = refl; some = λ s. absurd (omega arith); none = λ s. was-kind 0 k _ refl })
+  pub to-deck-down : (q : Position) → kind ≡ 0 → q ≡ putBack (lowered p c) c byte → q ≡ before p byte kind c
+  unfolding before
+  to-deck-down q k e = e ∙ was-kind 0 k _ refl
 
-  pub to-deck : (q : Position) (pile : ℕ) → kind ≡ 2 → q ≡ putBack (lifted p c) c byte → pile ≡ 7 → Going q pile
-  unfolding before putBack lifted
-  to-deck q pile k e l =
-      rw (e, l) (record { deal = refl; counts = refl; some = λ s. absurd (omega arith); none = λ s. was-kind 2 k _ refl })
+  pub to-deck : (q : Position) → kind ≡ 2 → q ≡ putBack (lifted p c) c byte → q ≡ before p byte kind c
+  unfolding before
+  to-deck q k e = e ∙ was-kind 2 k _ refl
 
   pub to-stack : (q : Position) (pile : ℕ) → kind ≡ 3 → q ≡ raised (lifted p c) c → pile ≡ 7 → Going q pile
   unfolding before raised lifted

@@ -1,12 +1,12 @@
 -- A kind that is none of the first four counts as Reveal.
 -- Assumes nothing.
-use mathlib.Core.Logic.{_⊎_, inl, inr}
+use mathlib.Core.Logic.{inl, inr}
 use mathlib.Core.Path.{_≡_, refl}
 use Prim.Native.Nat.{ℕ, zero, suc}
 use Rattle.rules.specs.declared.Position.{Position}
 use Rattle.rules.specs.Legal.{legal}
 use Rattle.rules.specs.Play.{after, undoByte, turnedUp, before}
-use Rattle.play.specs.Made.{made, hasWay}
+use Rattle.play.specs.Made.{OfDeck, made, hasWay}
 
 -- what a match on the kind knows in its last arm
 pub record Last (kind : ℕ) : Type 0 where
@@ -18,9 +18,9 @@ pub record Last (kind : ℕ) : Type 0 where
 pub none : {kind : ℕ} → (((Unit {0} × (kind ≡ 0 → ⊥)) × (kind ≡ 1 → ⊥)) × (kind ≡ 2 → ⊥)) × (kind ≡ 3 → ⊥) → Last kind
 none x = record { not0 = x .0 .0 .0 .1; not1 = x .0 .0 .1; not2 = x .0 .1; not3 = x .1 }
 
--- the same where the kinds of the deck share an arm
-pub rest : {kind : ℕ} → ((Unit {0} × ((kind ≡ 0) ⊎ (kind ≡ 2) → ⊥)) × (kind ≡ 3 → ⊥)) × (kind ≡ 1 → ⊥) → Last kind
-rest x = record { not0 = λ e. x .0 .0 .1 (inl e); not1 = x .1; not2 = λ e. x .0 .0 .1 (inr e); not3 = x .0 .1 }
+-- the same where the kinds of the deck are told apart before
+pub rest : {kind : ℕ} → (OfDeck kind → ⊥) → (Unit {0} × (kind ≡ 3 → ⊥)) × (kind ≡ 1 → ⊥) → Last kind
+rest d x = record { not0 = λ e. d (inl e); not1 = x .1; not2 = λ e. d (inr e); not3 = x .0 .1 }
 
 last : {A : Type 0} (f : ℕ → A) → ((k : ℕ) → f (suc (suc (suc (suc k)))) ≡ f 4) → (kind : ℕ) → Last kind → f kind ≡ f 4
 last f e zero l = absurd (l .not0 refl)

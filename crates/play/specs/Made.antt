@@ -1,5 +1,7 @@
 -- What making a move gives, and when going back over one is possible at all.
 use mathlib.Core.Bool.{Bool, true, _||_}
+use mathlib.Core.Logic.{_⊎_}
+use mathlib.Core.Path.{_≡_}
 use Prim.Native.Nat.{ℕ}
 use lib.Dec.{eqb, ltb}
 use Rattle.rules.specs.declared.Position.{Position}
@@ -7,6 +9,10 @@ use Rattle.rules.specs.Hidden.{barePile}
 use Rattle.rules.specs.Legal.{byKind}
 use Rattle.rules.specs.Play.{uncovered, under, after, undoByte, turnedUp}
 use Rattle.play.specs.declared.Made.{Made}
+
+-- the kinds whose card comes from the deck
+abbrev pub OfDeck : ℕ → Type 0
+OfDeck kind = (kind ≡ 0) ⊎ (kind ≡ 2)
 
 -- a move's position, byte and turned-up card
 unfoldable pub made : Position → ℕ → ℕ → Made

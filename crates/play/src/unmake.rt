@@ -3,7 +3,7 @@ ghost use mathlib.Core.Path.{_≡_};
 ghost use lib.Dec.{T};
 ghost use Rattle.rules.specs.Proper.{proper};
 ghost use Rattle.rules.specs.Play.{before};
-ghost use Rattle.play.specs.Made.{hasWay};
+ghost use Rattle.play.specs.Made.{hasWay, OfDeck};
 use crate::parts::bare_pile;
 use crate::parts::one_less;
 use crate::parts::seen;
@@ -31,28 +31,35 @@ pub fn has_way(p: Position, byte: u8, kind: u8, card: u8) -> bool
     }
 }
 
-// Goes back over a move that wrote this byte, if there is a way. What comes out may be no proper position.
+// A card goes back to the deck, to where the offset stands.
+fn to_deck(mut p: Position, byte: u8, kind: u8, card: u8) -> Position
+    requires { ⌜ T (proper p) × T (hasWay p byte kind card) × OfDeck kind ⌝ }
+    ensures { λ r. ⌜ r ≡ before p byte kind card ⌝ }
+{
+    let suit = Card(card).suit() as usize;
+    let cards = p.deck;
+    let left = p.left;
+    let more = deck::push(cards, left, p.offset, card);
+    p.deck = more;
+    p.left = left + 1;
+    p.offset = byte;
+    if kind == moves::DECK_STACK {
+        p.heights[suit] = one_less(p.heights[suit]);
+    } else {
+        p.visible = unseen(p.visible, card);
+    }
+    p
+}
+
+// A card goes back to its foundation or its pile; a head covers the card under it again.
 // A byte that is not 0 says of a card that went up from a pile that it was a head.
-pub fn undo_move(mut p: Position, byte: u8, kind: u8, card: u8) -> Position
-    requires { ⌜ T (proper p) × T (hasWay p byte kind card) ⌝ }
+fn to_table(mut p: Position, byte: u8, kind: u8, card: u8) -> Position
+    requires { ⌜ T (proper p) × T (hasWay p byte kind card) × (OfDeck kind → ⊥) ⌝ }
     ensures { λ r. ⌜ r ≡ before p byte kind card ⌝ }
 {
     let suit = Card(card).suit() as usize;
     let mut pile = N_PILES;
     match kind {
-        moves::DECK_STACK | moves::DECK_PILE => {
-            let cards = p.deck;
-            let left = p.left;
-            let more = deck::push(cards, left, p.offset, card);
-            p.deck = more;
-            p.left = left + 1;
-            p.offset = byte;
-            if kind == moves::DECK_STACK {
-                p.heights[suit] = one_less(p.heights[suit]);
-            } else {
-                p.visible = unseen(p.visible, card);
-            }
-        }
         moves::STACK_PILE => {
             p.heights[suit] = p.heights[suit] + 1;
             p.visible = unseen(p.visible, card);
@@ -77,4 +84,15 @@ pub fn undo_move(mut p: Position, byte: u8, kind: u8, card: u8) -> Position
         }
     }
     p
+}
+
+// Goes back over a move that wrote this byte, if there is a way. What comes out may be no proper position.
+pub fn undo_move(p: Position, byte: u8, kind: u8, card: u8) -> Position
+    requires { ⌜ T (proper p) × T (hasWay p byte kind card) ⌝ }
+    ensures { λ r. ⌜ r ≡ before p byte kind card ⌝ }
+{
+    match kind {
+        moves::DECK_STACK | moves::DECK_PILE => to_deck(p, byte, kind, card),
+        _ => to_table(p, byte, kind, card),
+    }
 }
