@@ -54,7 +54,7 @@ extern "C" {
 #define GRAVYHELM_WRONG_OFFSET 7     /* offset above cards left, or not the stored form */
 #define GRAVYHELM_OVERLAPPING 8      /* foundation overlaps deck, buried or heads */
 #define GRAVYHELM_UNARRANGED 9       /* no arrangement: the pair rule or the seven rule broken */
-#define GRAVYHELM_NO_MOVE 10         /* kind above 4 or card above 51 */
+#define GRAVYHELM_NO_SUCH_MOVE 10    /* kind above 4 or card above 51 */
 #define GRAVYHELM_NOT_LEGAL 11       /* move not legal */
 #define GRAVYHELM_HISTORY_FULL 12    /* history full */
 #define GRAVYHELM_NOTHING_TO_UNDO 13 /* nothing to undo */

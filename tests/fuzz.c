@@ -91,7 +91,7 @@ static void read_calls(gravyhelm_position p, uint8_t a, uint8_t b) {
     gravyhelm_located located = gravyhelm_find(p, b);
     gravyhelm_offset_record offset = gravyhelm_offset(p, a);
     MUST(heights.refusal == saved.refusal && deck.refusal == saved.refusal && deck.left <= GRAVYHELM_DECK_CARDS);
-    MUST(located.refusal == (proper ? (b > 51 ? GRAVYHELM_NO_MOVE : 0) : GRAVYHELM_NOT_PROPER) && located.place <= deck.left);
+    MUST(located.refusal == (proper ? (b > 51 ? GRAVYHELM_NO_SUCH_MOVE : 0) : GRAVYHELM_NOT_PROPER) && located.place <= deck.left);
     MUST(offset.refusal == saved.refusal && offset.offset <= deck.left);
     gravyhelm_compared compared = gravyhelm_ladder(p, p);
     MUST(compared.refusal == saved.refusal && compared.same == proper);

@@ -1,7 +1,8 @@
 // The public calls. Here are those that begin, save and compare a game; the others are in the parts, whose names are passed on, so that this crate has every public call:
 // `engine_history` takes a game on and back, `engine_lists` tells the moves, `engine_table` the foundations and piles, `engine_deck` the deck.
 // Each judges its own input, asks nothing of its caller, and refuses by document 01's numbers, in its order.
-// A refused call hands back the position it was given and leaves lent memory as it was.
+// A refused call hands back the position it was given and leaves lent memory as it was. `list` is the exception, by the language: it hands back the front of
+// its buffer, and what the buffer holds later is said by `list_into`, which it calls.
 ghost use mathlib.Core.Path.{_≡_};
 ghost use mathlib.Core.Bool.{false};
 ghost use Rattle.rules.specs.Answers.{dealAnswer, resumeAnswer, saveAnswer, ladderAnswer};

@@ -17,7 +17,7 @@ pub mod refusal {
     pub const WRONG_OFFSET: u8 = 7;
     pub const OVERLAPPING: u8 = 8;
     pub const UNARRANGED: u8 = 9;
-    pub const NO_MOVE: u8 = 10;
+    pub const NO_SUCH_MOVE: u8 = 10;
     pub const NOT_LEGAL: u8 = 11;
     pub const HISTORY_FULL: u8 = 12;
     pub const NOTHING_TO_UNDO: u8 = 13;
