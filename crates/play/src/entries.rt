@@ -38,13 +38,21 @@ fn same_bytes(a: &[u8], b: &[u8], n: usize) -> bool
     true
 }
 
+// All n bytes of both are the same.
+fn same_all(a: &[u8], b: &[u8], n: usize) -> bool
+    requires { ⌜ (length (now a) ≡ n) × (length (now b) ≡ n) ⌝ }
+    ensures { λ r. ⌜ r ≡ sameList (now (a .entry)) (now (b .entry)) ⌝ }
+{
+    same_bytes(a, b, n)
+}
+
 // Two positions are of one deal.
 pub fn same_deal(p: Position, q: Position) -> bool
     ensures { λ r. ⌜ r ≡ sameList (p .deal) (q .deal) ⌝ }
 {
     let a = p.deal;
     let b = q.deal;
-    same_bytes(&a, &b, N_CARDS)
+    same_all(&a, &b, N_CARDS)
 }
 
 fn same_counts(p: Position, q: Position) -> bool
@@ -52,7 +60,7 @@ fn same_counts(p: Position, q: Position) -> bool
 {
     let a = p.counts;
     let b = q.counts;
-    same_bytes(&a, &b, N_PILES)
+    same_all(&a, &b, N_PILES)
 }
 
 fn same_heights(p: Position, q: Position) -> bool
@@ -60,7 +68,7 @@ fn same_heights(p: Position, q: Position) -> bool
 {
     let a = p.heights;
     let b = q.heights;
-    same_bytes(&a, &b, N_SUITS)
+    same_all(&a, &b, N_SUITS)
 }
 
 // The cards left are the same. Spare slots don't count.
