@@ -1,5 +1,6 @@
 // Where the engine's answers lie in a record.
 ghost use Prim.Native.Nat.{_<_, _≤_};
+use card::N_PILES;
 use replay_bytes::Answer;
 use replay_bytes::record::all_are;
 use replay_bytes::record::copy;
@@ -23,8 +24,6 @@ pub const N_LIST: usize = 28;
 pub const N_BYTES: usize = 128;
 
 // The face-up piles: 7 of 13 bytes.
-const N_PILES: usize = 7;
-
 const ROW: usize = 13;
 
 const PILE_BYTES: usize = N_PILES * ROW;
