@@ -11,7 +11,7 @@ use Rattle.rules.specs.declared.TurnedUp.the-variants.{Nothing}
 use Rattle.rules.specs.Hidden.{headPile, barePile}
 use Rattle.rules.specs.Legal.{legal}
 use Rattle.rules.specs.Proper.{proper}
-use Rattle.rules.specs.Play.{raised, lowered, shown, hidden, drawn, putBack, turnedBack, withVisible, withHeights, withDeck, before}
+use Rattle.rules.specs.Play.{raised, lowered, shown, hidden, drawn, putBack, turnedBack, withVisible, withHeights, before}
 use Rattle.play.specs.declared.Made.{Made}
 use Rattle.play.specs.Made.{made, turnedAt, hasWay}
 use Rattle.play.proofs.Known.{head-at, no-head, is-head, reveal-head, bare-at, pile-stack-way, reveal-way}

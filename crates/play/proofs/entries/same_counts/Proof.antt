@@ -1,27 +1,17 @@
 -- `play::entries::same_counts` meets its contract.
 -- Assumes nothing.
 use borrow.Author.Needs.{needs}
-use mathlib.Core.Path.{_≡_, ap₂, _∙_}
+use mathlib.Core.Path.{ap₂, _∙_}
 use native.Mathlib.Omega.{arith}
-use lib.ListN.{length}
 use lib.Seq.{take-all}
 use Rattle.rules.specs.Bits.{sameList}
 use Rattle.rules.proofs.Shape.{shape}
 use Rattle.play.proofs.entries.same_counts.Statement.{statement}
 use Rattle.play.proofs.entries.same_counts.Tie as tie
 
--- ---- the way back to the two positions, and their lengths
-
+-- the way back to the two positions
 abbrev begun : tie.After-b2 → tie.Start
 begun c = c .before .before .before .before
-
-long-p : (c : tie.Start) → length (c .args .p .counts) ≡ 7
-long-p c = shape (c .args .p) _ (c .good .0) .counts
-
-long-q : (c : tie.Start) → length (c .args .q .counts) ≡ 7
-long-q c = shape (c .args .q) _ (c .good .1 .0) .counts
-
--- ---- the needs
 
 slice-aggregate-same-bytes : tie.Need-slice-aggregate-same-bytes
 slice-aggregate-same-bytes c = search needs
@@ -30,12 +20,15 @@ slice-aggregate-same-bytes-2 : tie.Need-slice-aggregate-same-bytes-2
 slice-aggregate-same-bytes-2 c = search needs
 
 same-bytes-requires : tie.Need-same-bytes-requires
-same-bytes-requires c κs = (omega (arith, long-p (begun c)), omega (arith, long-q (begun c)))
+same-bytes-requires c κs =
+    let b = begun c in
+    (omega (arith, shape (b .args .p) _ (b .good .0) .counts), omega (arith, shape (b .args .q) _ (b .good .1 .0) .counts))
 
 returns : tie.Need-returns
 returns c =
     let b = begun (c .before) in
-    c .same-bytes .ensures ∙ ap₂ sameList (take-all 7 (b .args .p .counts) (omega (arith, long-p b))) (take-all 7 (b .args .q .counts) (omega (arith, long-q b)))
+    c .same-bytes .ensures
+    ∙ ap₂ sameList (take-all 7 (b .args .p .counts) (omega (arith, shape (b .args .p) _ (b .good .0) .counts))) (take-all 7 (b .args .q .counts) (omega (arith, shape (b .args .q) _ (b .good .1 .0) .counts)))
 
 pub same-counts-spec : {M : Type 1} → statement M
 same-counts-spec =

@@ -10,7 +10,7 @@ use lib.ListN.{getD}
 use mir.Val.{boolByte}
 use Rattle.rules.specs.declared.Position.{Position}
 use Rattle.rules.specs.declared.TurnedUp.{TurnedUp}
-use Rattle.rules.specs.Places.{pileStart, pileCard, cardAt}
+use Rattle.rules.specs.Places.{pileStart}
 use Rattle.hidden_masks.proofs.Collected.{in-deal}
 use Rattle.play.specs.declared.Made.{Made}
 use Rattle.play.specs.Made.{made}

@@ -6,7 +6,7 @@ use mathlib.Core.Path.{_≡_, refl, ap, _∙_}
 use Prim.Native.Nat.{ℕ, _+_, _-_, _≤_, _<_}
 use native.Mathlib.Omega.{arith}
 use lib.ListN.{getD}
-use Rattle.rules.specs.Places.{pileStart, pileCard, cardAt}
+use Rattle.rules.specs.Places.{pileStart}
 use Rattle.hidden_masks.proofs.Collected.{in-deal}
 use Rattle.play.proofs.Known.{counts-fit, same-fit, suit-fits, low-height}
 use Rattle.play.proofs.LastKind.{rest}
