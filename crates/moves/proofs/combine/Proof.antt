@@ -1,4 +1,4 @@
--- `moves_masks::combine` meets its contract.
+-- `moves::combine` meets its contract.
 -- Assumes nothing.
 use Rattle.rules.specs.Moves.{maskByMask, combined}
 use Rattle.rules.proofs.Sets.{or-is}

@@ -1,4 +1,4 @@
--- `moves_masks::filter` meets its contract.
+-- `moves::filter` meets its contract.
 -- Assumes nothing.
 use Rattle.rules.specs.Moves.{maskByMask, filtered}
 use Rattle.rules.proofs.Sets.{minus-is}

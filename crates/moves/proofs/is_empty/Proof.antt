@@ -1,4 +1,4 @@
--- `moves_masks::is_empty` meets its contract.
+-- `moves::is_empty` meets its contract.
 -- Assumes nothing.
 use Rattle.rules.specs.Moves.{noMoves}
 use Rattle.moves.proofs.Sized.{or-none}

@@ -1,4 +1,4 @@
--- `moves_masks::len` meets its contract.
+-- `moves::len` meets its contract.
 -- Assumes nothing.
 use Prim.Native.Nat.{ℕ, _≤_}
 use native.Mathlib.Omega.{arith}

@@ -1,4 +1,4 @@
--- `moves_masks::of_move` meets its contract.
+-- `moves::of_move` meets its contract.
 -- Assumes nothing.
 use mathlib.Core.Path.{_≡_, refl}
 use Prim.Native.Nat.{ℕ, zero, suc, _≤_}
