@@ -1,5 +1,6 @@
 -- A position's record is spelled out in this file and nowhere else among the definitions: the blank one, and a position with one of its parts replaced.
--- What document 01 says that a position holds: "the deal, step 1 to 24, seven counts, four foundation heights, the deck cards left, an offset, and the visible mask".
+-- Document 01: "A position holds the deal, step 1 to 24, seven counts n_i from 0 to i+1, four foundation heights 0 to 13, the deck cards left (in deal order), an
+-- offset 0 to their number, and the visible mask."
 use mathlib.Core.List.{List}
 use Prim.Native.Nat.{ℕ}
 use lib.ListN.{replicate}
