@@ -1,7 +1,9 @@
 // Cards, and the constant tables that follow from the card-number rule.
+#![tactic(auto)]
+
 ghost use Rattle.std.specs.Prelude.{◌≡◌, ◌+◌, ◌/◌, ◌%◌, ◌<◌, ◌≤◌, length, nat_eq};
 ghost use Rattle.bits.specs.Bit.{mask_of};
-ghost use Rattle.card.specs.Cards.{card_of, rank as rank_of, suit as suitOf, partner, suit_mask, colour_mask, pile_start, cards_from};
+ghost use Rattle.card.specs.Cards.{card_of, rank as rank_of, suit as suit_of, partner, suit_mask, colour_mask, pile_start, cards_from};
 ghost use Rattle.card.specs.Methods.{number_of, twin, above, below, king_or_fake, goes_after, split_of, first_card};
 ghost use Rattle.card.specs.Constants.{constants_are};
 
@@ -64,21 +66,21 @@ const SUITS: u8 = N_SUITS as u8;
 const KING_RANK: u8 = N_RANKS as u8 - 1;
 
 // A card number. The cards are 0 to 51; every method answers on every byte.
-#[derive(Drop)]
+#[derive(Clone, Copy)]
 pub struct Card(pub u8);
 
 // The largest byte.
 const TOP: u8 = 255;
 
 // The source's Option<Card>.
-#[derive(Drop)]
+#[derive(Clone, Copy)]
 pub enum Maybe {
     Nothing,
     Card(Card),
 }
 
 // A rank and a suit.
-#[derive(Drop)]
+#[derive(Clone, Copy)]
 pub struct Split {
     pub rank: u8,
     pub suit: u8,
@@ -118,7 +120,7 @@ impl Card {
     }
 
     pub fn suit(self) -> u8
-        ensures { result ≡ suitOf self.0 }
+        ensures { result ≡ suit_of self.0 }
     {
         suit_xor_color(self.0) % SUITS
     }
@@ -211,7 +213,7 @@ impl Card {
 }
 
 // The single constants, together.
-#[derive(Drop)]
+#[derive(Clone, Copy)]
 pub struct Tied {
     pub king: u64,
     pub half: u64,

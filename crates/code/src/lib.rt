@@ -1,4 +1,6 @@
 // The save code, and the position that a code stands for.
+#![tactic(auto)]
+
 ghost use Rattle.std.specs.Prelude.{◌≡◌, T};
 ghost use Rattle.rules.specs.Proper.{proper};
 ghost use Rattle.rules.specs.Code.{code as code_of};
@@ -35,7 +37,7 @@ pub fn encode(p: Position) -> u64
 }
 
 // The four fields of a save code.
-#[derive(Drop)]
+#[derive(Clone, Copy)]
 struct Fields {
     heights: u16,
     piles: u16,
@@ -55,7 +57,7 @@ fn fields_of(code: u64) -> Fields
 }
 
 // The cards by where they lie.
-#[derive(Drop)]
+#[derive(Clone, Copy)]
 struct Sets {
     foundation: u64,
     deck: u64,

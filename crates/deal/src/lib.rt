@@ -1,7 +1,9 @@
 // A fresh deal: the refusals of what is dealt, the position, and the blank one that a refused call returns.
+#![tactic(auto)]
+
 ghost use Rattle.std.specs.Prelude.{◌≡◌, length, take, drop};
 ghost use Rattle.rules.specs.Hidden.{CardsFit};
-ghost use Rattle.rules.specs.Fields.{blank as blankOne};
+ghost use Rattle.rules.specs.Fields.{blank as blank_one};
 ghost use Rattle.rules.specs.Code.{fresh as fresh_of};
 ghost use Rattle.rules.specs.Answers.{deal_refusal, deal_answer};
 ghost use Rattle.deal.specs.Starts.{refused_by};
@@ -11,7 +13,7 @@ use rules::{Position, Started};
 
 // The position that a refused deal or resume returns: all numbers 0.
 pub fn blank() -> Position
-    ensures { result ≡ blankOne }
+    ensures { result ≡ blank_one }
 {
     Position {
         deal: [0u8; N_CARDS],

@@ -1,4 +1,6 @@
 // Dealing: the offset after one deal and after many, on bare numbers and on a cursor that is given or lent. Crate `deck` passes these names on.
+#![tactic(auto)]
+
 ghost use Rattle.std.specs.Prelude.{◌≡◌, ◌<◌, ◌≤◌, ◌+◌, ◌-◌, ◌/◌};
 ghost use Rattle.rules.specs.Proper.{step_right};
 ghost use Rattle.rules.specs.Dealing.{dealt, deals, cursor_of, pure_at};

@@ -1,4 +1,6 @@
 // The deck: the cards that can be drawn, as masks. Crate `deck` passes these names on.
+#![tactic(auto)]
+
 ghost use Rattle.std.specs.Prelude.{◌≡◌, ◌&&◌, cond, ℕ, ◌<◌, ◌≤◌, ◌-◌, ◌%◌, T, eqb, leb, get_or};
 ghost use Rattle.bits.specs.Bit.{mask_of};
 ghost use Rattle.rules.specs.Bits.{any_of};

@@ -1,5 +1,7 @@
 // The deck's 24 slots, of which the first `left` hold the cards left: an array and a length in the place of ArrayVec. A card goes out at a place and in at one.
 // Crate `deck` passes these names on.
+#![tactic(auto)]
+
 ghost use Rattle.std.specs.Prelude.{◌≡◌, ◌<◌, ◌≤◌, ◌+◌, eqb, length, get_or, take, drop};
 ghost use Rattle.std.proofs.Math.Seq.{paste};
 ghost use Rattle.rules.specs.Bits.{first_of};
@@ -10,7 +12,7 @@ fn copy(deck: &[u8], from: usize, out: &mut [u8], to: usize, n: usize)
     requires { (from + n ≤ length deck.now) × (to + n ≤ length out.old) }
     ensures { out.new ≡ paste out.old to (drop from deck.now) n }
 {
-    bytes::copy(&deck[from..from + n], &mut out[to..to + n]);
+    out[to..to + n].copy_from_slice(&deck[from..from + n]);
 }
 
 // The cards left alone: spare slots are 0.

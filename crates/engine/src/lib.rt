@@ -3,6 +3,8 @@
 // Each judges its own input, asks nothing of its caller, and refuses by document 01's numbers, in its order.
 // A refused call hands back the position it was given and leaves lent memory as it was. `list` is the exception, by the language: it hands back the front of
 // its buffer, and what the buffer holds later is said by `list_into`, which it calls.
+#![tactic(auto)]
+
 ghost use Rattle.std.specs.Prelude.{◌≡◌, false};
 ghost use Rattle.rules.specs.Answers.{deal_answer, resume_answer, save_answer, ladder_answer};
 

@@ -1,4 +1,6 @@
 // The public calls that tell of the deck: its cards, where one lies, the offset after deals. Crate `engine` passes these names on.
+#![tactic(auto)]
+
 ghost use Rattle.std.specs.Prelude.{◌≡◌};
 ghost use Rattle.rules.specs.Answers.{deck_answer, find_answer, offset_answer};
 

@@ -1,4 +1,6 @@
 // The public calls that take a game on and back: a move and an undo, over a lent history and a count. Crate `engine` passes these names on.
+#![tactic(auto)]
+
 ghost use Rattle.std.specs.Prelude.{◌≡◌};
 ghost use Rattle.rules.specs.declared.TurnedUp.TheVariants.{Nothing};
 ghost use Rattle.rules.specs.Answers.{move_answer, move_history, undo_answer};

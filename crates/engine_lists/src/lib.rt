@@ -1,4 +1,6 @@
 // The public calls that tell the moves of a position: their masks, the test of one, their list. Crate `engine` passes these names on.
+#![tactic(auto)]
+
 ghost use Rattle.std.specs.Prelude.{◌≡◌, length};
 ghost use Rattle.rules.specs.Answers.{no_masks, masks_answer, test_answer, listing_answer, listing_front, listing_into};
 

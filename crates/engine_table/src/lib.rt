@@ -1,4 +1,6 @@
 // The public calls that tell what lies on the table: the foundations, the face-up piles, whether the game is won. Crate `engine` passes these names on.
+#![tactic(auto)]
+
 ghost use Rattle.std.specs.Prelude.{◌≡◌, length};
 ghost use Rattle.rules.specs.Answers.{win_answer, sure_win_answer, heights_answer, piles_answer, piles_buffer};
 

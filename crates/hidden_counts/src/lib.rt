@@ -1,5 +1,7 @@
 // What reads the seven counts alone: whether no card is buried, how many are, and the pile field of a save code.
 // Crate `hidden` passes these names on.
+#![tactic(auto)]
+
 ghost use Rattle.std.specs.Prelude.{cond, ◌≡◌, ltb, replicate};
 ghost use Rattle.rules.specs.Code.{counts_field, field_count, pile_codes, table};
 ghost use Rattle.rules.specs.Hidden.{CountsFit, all_up, down_cards};
@@ -53,7 +55,7 @@ pub fn encode(counts: &[u8; 7]) -> u16
 }
 
 // The counts that a pile field stands for, or seven times 0 where it stands for none: a field is never taken modulo a radix.
-#[derive(Drop)]
+#[derive(Clone, Copy)]
 pub struct DecodedPiles {
     pub fits: bool,
     pub counts: [u8; 7],

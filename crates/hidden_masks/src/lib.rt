@@ -1,5 +1,7 @@
 // The masks of the locked cards of the seven piles: the heads, the buried cards, the first cards of the piles.
 // A function takes what it reads, the deal and the counts, and requires no more than their ranges. Crate `hidden` passes these names on.
+#![tactic(auto)]
+
 ghost use Rattle.std.specs.Prelude.{◌≡◌, T};
 ghost use Rattle.bits.specs.Bit.{mask_of};
 ghost use Rattle.rules.specs.Places.{is_head, alone};
@@ -63,7 +65,7 @@ pub fn locked_mask(deal: &[u8; 52], counts: &[u8; 7]) -> u64
 }
 
 // The heads, and those of them that are alone: a head stands at the base of its pile just where its count is 1.
-#[derive(Drop)]
+#[derive(Clone, Copy)]
 pub struct HeadMasks {
     pub all: u64,
     pub alone: u64,

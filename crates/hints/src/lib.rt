@@ -1,4 +1,6 @@
 // The masks that a hint call hands out: the legal moves, or, where pruning is asked, those that are worth trying.
+#![tactic(auto)]
+
 ghost use Rattle.std.specs.Prelude.{◌≡◌, T};
 ghost use Rattle.rules.specs.Proper.{proper};
 ghost use Rattle.rules.specs.Answers.{masks_for};

@@ -1,5 +1,7 @@
 // The work behind the public calls, without their judging: a library for measuring alone. Nothing here is a public call.
 // Each function says of its result what the function that it hands on says.
+#![tactic(auto)]
+
 ghost use Rattle.std.specs.Prelude.{cond, ◌≡◌, ◌<◌, ◌≤◌, T, length, get_or};
 ghost use Rattle.rules.specs.Places.{in_deck};
 ghost use Rattle.rules.specs.Proper.{proper as is_proper};
@@ -109,7 +111,7 @@ pub extern "C" fn inside_resume(step: u8, cards: &[u8], code: u64) -> Started
 
 // What a move leads to, and the byte that its undo needs.
 #[repr(C)]
-#[derive(Drop)]
+#[derive(Clone, Copy)]
 pub struct Step {
     pub position: Position,
     pub byte: u8,

@@ -12,7 +12,7 @@ use Rattle.rules.specs.Piles.{pile_bytes}
 use Rattle.rules.specs.Answers.{masks_for}
 use Rattle.rules.specs.History.{step_back}
 use Rattle.rules.specs.Secrecy.{Call, move, undo, masks, list, test, face_up, heights, save, ladder, next, answers_of, Start, started}
-use Rattle.rules.specs.Worked.{W, masks as fiveMasks}
+use Rattle.rules.specs.Worked.{W, masks as five_masks}
 use Rattle.rules.proofs.Open.{rules, rules_but}
 use Rattle.bits.proofs.Searches.{all_yes}
 use Rattle.rules.proofs.SameList.{list_same}
@@ -76,8 +76,8 @@ shown_calls = calls_of (shown_table true)
 -- what is computed once: the positions are proper, but not the one before a PileStack 7 in W; the masks
 abbrev Fair : Type 0
 Fair =
-    (proper (step_back (later W) 583) ≡ false) × (masks_for false (later W) ≡ fiveMasks 0x420000 0x100000 0 0 0x42000)
-    × (masks_for true (later W) ≡ fiveMasks 0x20000 0x100000 0 0 0x40000)
+    (proper (step_back (later W) 583) ≡ false) × (masks_for false (later W) ≡ five_masks 0x420000 0x100000 0 0 0x42000)
+    × (masks_for true (later W) ≡ five_masks 0x20000 0x100000 0 0 0x40000)
 
 fair : Fair
 unfolding rules
@@ -86,8 +86,8 @@ fair = (refl, refl, refl)
 abbrev Fair'' : Type 0
 Fair'' =
     (proper (late W'') ≡ true) × (proper seven_up ≡ true) × (proper seven_gone ≡ true)
-    × (masks_for false seven_up ≡ fiveMasks 0x400000 0x100080 0 0 0x40000)
-    × (masks_for true seven_up ≡ fiveMasks 0 0x80 0 0 0)
+    × (masks_for false seven_up ≡ five_masks 0x400000 0x100080 0 0 0x40000)
+    × (masks_for true seven_up ≡ five_masks 0 0x80 0 0 0)
 
 fair'' : Fair''
 unfolding rules W''

@@ -1,4 +1,6 @@
 // The masks of a position.
+#![tactic(auto)]
+
 ghost use Rattle.std.specs.Prelude.{◌≡◌, ℕ, ◌<◌, ◌≤◌, ◌^◌, ◌/◌, T, ltb};
 ghost use Rattle.bits.specs.Bit.{bit, mask_of};
 ghost use Rattle.card.specs.Methods.{twin};
@@ -56,7 +58,7 @@ pub fn room_mask(p: Position, heads: u64, bottom: u64) -> u64
 }
 
 // What both kinds of masks start from: the visible cards, the heads, those alone in their piles, the open pairs, the next cards.
-#[derive(Drop)]
+#[derive(Clone, Copy)]
 pub struct Sight {
     pub vis: u64,
     pub locked: u64,

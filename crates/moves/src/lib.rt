@@ -1,4 +1,6 @@
 // The kinds of moves, the moves as five masks, one for each kind, and their listing: what is ported of moves.rs.
+#![tactic(auto)]
+
 ghost use Rattle.std.specs.Prelude.{◌≡◌, ◌<◌, length};
 ghost use Rattle.rules.specs.Moves.{CardMasks, move_count, no_moves, filtered, combined, one_move, fitting, listed_over};
 

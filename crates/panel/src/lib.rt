@@ -3,6 +3,8 @@
 // Positions, cursors and answers go by value, as plain data of which nothing is trusted. A slice is a pointer and a length. A yes or no that is given is a byte: 0 is no.
 // An exported function cannot return a reference: `list`, which hands back the front of the buffer itself, is for Rattle alone. For C `gravyhelm_list_into` gives how many
 // slots are that front.
+#![tactic(auto)]
+
 ghost use Rattle.std.specs.Prelude.{◌≡◌};
 ghost use Rattle.panel.specs.Crossing.{numbers_of};
 ghost use Rattle.panel.specs.Calls.{deal, resume, save, masks, test, list_into, list, list_count, move, undo, win, sure_win, ladder, heights, deck, find, offset, face_up, deal_once, deal_once_lent, answer, lent};
@@ -14,14 +16,14 @@ use rules::{
 
 // A move's answer as it crosses: what was turned up is its case and its card.
 #[repr(C)]
-#[derive(Drop)]
+#[derive(Clone, Copy)]
 pub struct TurnedNumbers {
     pub kind: u8,
     pub card: u8,
 }
 
 #[repr(C)]
-#[derive(Drop)]
+#[derive(Clone, Copy)]
 pub struct MovedNumbers {
     pub refusal: u8,
     pub position: Position,

@@ -1,4 +1,6 @@
 // The face-up piles of a position.
+#![tactic(auto)]
+
 ghost use Rattle.std.specs.Prelude.{◌≡◌, ◌<◌, ◌≤◌, T, length, replicate};
 ghost use Rattle.bits.specs.Bit.{bit};
 ghost use Rattle.rules.specs.Proper.{proper};
@@ -76,14 +78,14 @@ fn fill_run(part: &mut [u8], vis: u64, free: u64, start: u8) -> u8
 }
 
 // What the search for the next free king yields.
-#[derive(Drop)]
+#[derive(Clone, Copy)]
 pub enum Next {
     Suit(u8),
     None,
 }
 
 // Of a pile with no head: its length, and the suit from which the next search starts.
-#[derive(Drop)]
+#[derive(Clone, Copy)]
 pub struct Filled {
     pub len: u8,
     pub from: u8,

@@ -1,4 +1,6 @@
 // Making a move and going back over one, and the entries of a history: the work behind the engine's move and undo.
+#![tactic(auto)]
+
 mod entries;
 mod make;
 mod parts;
@@ -10,7 +12,7 @@ use rules::{Position, TurnedUp};
 pub use unmake::{has_way, undo_move};
 
 // What a move leads to: the position, the byte that undo needs, and what the move turned up.
-#[derive(Drop)]
+#[derive(Clone, Copy)]
 pub struct Made {
     pub position: Position,
     pub byte: u8,
@@ -18,7 +20,7 @@ pub struct Made {
 }
 
 // What going back over an entry leads to. Where that is impossible the position is the given one.
-#[derive(Drop)]
+#[derive(Clone, Copy)]
 pub struct Back {
     pub possible: bool,
     pub position: Position,

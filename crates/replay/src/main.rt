@@ -1,5 +1,7 @@
 // Replays the oracle's answers, which stand in its standard input, over the engine. Each record is answered anew from its inputs, and must come out byte for byte.
 // The format is that of oracle/compare/src/rows.rs: a header and records of 64 bytes each. Here the engine is asked. The bytes and the report are in crate `replay_bytes`, the layout of an answer in `replay_rows`.
+#![tactic(auto)]
+
 mod entries;
 mod lists;
 mod plays;

@@ -1,10 +1,12 @@
 // The records that the program replay reads: their bytes, what a record is answered with, and the tally of what came out right.
 // The format is that of oracle/compare/src/rows.rs: a header and records of 64 bytes each.
+#![tactic(auto)]
+
 pub mod record;
 pub mod report;
 
 // A record as it is answered anew: its bytes, and whether the calls kept what no byte shows: the given position, the history, the buffers.
-#[derive(Drop)]
+#[derive(Clone, Copy)]
 pub struct Answer {
     pub bytes: [u8; 64],
     pub kept: bool,

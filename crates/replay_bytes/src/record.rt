@@ -11,7 +11,7 @@ const BYTE: usize = 256;
 const SHORT: u64 = 65536;
 
 // What was read: a record, or less where the file ends.
-#[derive(Drop)]
+#[derive(Clone, Copy)]
 pub struct Row {
     pub bytes: [u8; 64],
     pub whole: bool,
@@ -130,7 +130,7 @@ pub fn copy(src: &[u8], from: usize, mut out: [u8; 64], to: usize, n: usize) -> 
     if SIZE - to < taken.len() {
         return out;
     }
-    bytes::copy(taken, &mut out[to..to + taken.len()]);
+    out[to..to + taken.len()].copy_from_slice(taken);
     out
 }
 

@@ -8,7 +8,7 @@ use libc::STDOUT_FILENO;
 // The tags are 1 to 14.
 const N_TAGS: usize = 15;
 
-#[derive(Drop)]
+#[derive(Clone, Copy)]
 pub struct Tally {
     pub records: u64,
     pub wrong: u64,

@@ -1,4 +1,6 @@
 // What the program replay knows of a record's answer without the engine: how it is laid out in the bytes, and what a call is to keep.
+#![tactic(auto)]
+
 pub mod history;
 pub mod laid;
 pub mod same;

@@ -5,7 +5,7 @@ use deal::blank;
 use replay_bytes::Answer;
 use rules::{Position, Started};
 
-#[derive(Drop)]
+#[derive(Clone, Copy)]
 pub struct Table {
     pub position: Position,
     pub history: [u16; 64],

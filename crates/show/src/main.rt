@@ -1,5 +1,7 @@
 // The program `show`: reads one byte of step and then the deal; prints the code and the five masks, or `refused N`.
 // `text` is what it prints, on slices: no contract can speak of what is read or written.
+#![tactic(auto)]
+
 ghost use Rattle.std.specs.Prelude.{◌≡◌, ◌++◌, ◌+◌, ◌<◌, ◌≤◌, T, length, drop};
 ghost use Rattle.std.proofs.lemmas.List.Edits.{sets};
 ghost use Rattle.rules.specs.Proper.{proper};

@@ -1,7 +1,9 @@
 // The masks that the four heights give: the next cards, those that may go up at once, those that lie there. Crate `stack` passes these names on.
+#![tactic(auto)]
+
 ghost use Rattle.std.specs.Prelude.{◌≡◌, ◌&&◌, ℕ, ◌<◌, ◌≤◌, eqb, ltb, get_or};
 ghost use Rattle.bits.specs.Bit.{mask_of};
-ghost use Rattle.rules.specs.Cards.{suit as suitOf, rank};
+ghost use Rattle.rules.specs.Cards.{suit as suit_of, rank};
 ghost use Rattle.rules.specs.Foundations.{stacked_on};
 ghost use Rattle.rules.specs.Legal.{next_on};
 ghost use Rattle.rules.specs.Pruned.{dominant_on};
@@ -11,7 +13,7 @@ use bits::min;
 // The card of a suit that is next on a foundation of this height.
 fn next(suit: usize, height: u8) -> u64
     requires { (suit < 4) × (height ≤ 13) }
-    ensures { result ≡ mask_of 56 (λ c. eqb (suitOf c) suit && eqb (rank c) height) }
+    ensures { result ≡ mask_of 56 (λ c. eqb (suit_of c) suit && eqb (rank c) height) }
 {
     let shift = (height as u32) * 4;
     card::suit_mask(suit) & (0b1111u64 << shift)

@@ -1,5 +1,7 @@
 // What speaks of all four foundations: tests of every height, their sum, and the heights' field of the save code.
 // Crate `stack` passes these names on.
+#![tactic(auto)]
+
 ghost use Rattle.std.specs.Prelude.{◌&&◌, ◌≡◌, ◌+◌, ◌*◌, ◌≤◌, leb, get_or};
 ghost use Rattle.rules.specs.Bits.{all_of};
 ghost use Rattle.rules.specs.Foundations.{valid_on, full_on, empty_on, cards_on, field_on};

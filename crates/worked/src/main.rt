@@ -1,4 +1,6 @@
 // Document 01's worked rows P1 to P14 as a run: each row's answers by the engine, which the stored stdout holds to the document's.
+#![tactic(auto)]
+
 use libc::STDOUT_FILENO;
 use rules::{Masks, Position};
 
