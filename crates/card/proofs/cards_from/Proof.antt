@@ -8,52 +8,52 @@ use Rattle.card.proofs.Gathering.{cards_step}
 use Rattle.card.proofs.cards_from.Statement.{statement}
 use Rattle.card.proofs.cards_from.Tie as tie
 
-abbrev invariant-loop : tie.invariant-loop
-invariant-loop cards start n mask₀ k₀ mask k = (k ≤ n) × (mask ≡ cards_from cards start k)
+abbrev invariant-loop-k : tie.invariant-loop-k
+invariant-loop-k cards start n mask₀ k₀ mask k = (k ≤ n) × (mask ≡ cards_from cards start k)
 
-abbrev decreases-loop : tie.decreases-loop
-decreases-loop cards start n mask₀ k₀ mask k = n - k
+abbrev decreases-loop-k : tie.decreases-loop-k
+decreases-loop-k cards start n mask₀ k₀ mask k = n - k
 
-loop-holds : tie.Need-loop-init invariant-loop decreases-loop
+loop-k-init : tie.Need-loop-k-init invariant-loop-k decreases-loop-k
 unfolding cards_from mask_of any_of
-loop-holds c = (omega arith, refl)
+loop-k-init c = (omega arith, refl)
 
-add-mask : tie.Need-overflow-add-mask invariant-loop decreases-loop
-add-mask c = search rules
+overflow_add-mask : tie.Need-overflow_add-mask invariant-loop-k decreases-loop-k
+overflow_add-mask c = search rules
 
-shared-slice-read-mask : tie.Need-shared-slice-read-mask invariant-loop decreases-loop
-shared-slice-read-mask c = search rules
+bounds-cards-start : tie.Need-bounds-cards-start invariant-loop-k decreases-loop-k
+bounds-cards-start c = search rules
 
-cast-mask : tie.Need-overflow-cast-mask invariant-loop decreases-loop
-cast-mask c = rw kept (omega arith)
+overflow_cast-mask : tie.Need-overflow_cast-mask invariant-loop-k decreases-loop-k
+overflow_cast-mask c = rw kept (omega arith)
 
-shl-mask : tie.Need-overflow-shl-mask invariant-loop decreases-loop
-shl-mask c = rw kept (omega arith)
+overflow_shl-mask : tie.Need-overflow_shl-mask invariant-loop-k decreases-loop-k
+overflow_shl-mask c = rw kept (omega arith)
 
-add-k : tie.Need-overflow-add-k invariant-loop decreases-loop
-add-k c = search rules
+overflow_add-k : tie.Need-overflow_add-k invariant-loop-k decreases-loop-k
+overflow_add-k c = search rules
 
-loop-less : tie.Need-loop-smaller invariant-loop decreases-loop
-loop-less c = search rules
+loop-k-smaller : tie.Need-loop-k-smaller invariant-loop-k decreases-loop-k
+loop-k-smaller c = search rules
 
-loop-again : tie.Need-loop-preserved invariant-loop decreases-loop
-loop-again c = (omega arith, rw c.before.before.loop.invariant.1 (cards_step _ _ _))
+loop-k-preserved : tie.Need-loop-k-preserved invariant-loop-k decreases-loop-k
+loop-k-preserved c = (omega arith, rw c.before.before.loop-k.invariant.1 (cards_step _ _ _))
 
-returns : tie.Need-returns invariant-loop decreases-loop
-returns c = let e : c.before.loop.k ≡ c.before.before.args.n = omega arith in c.before.loop.invariant.1 ∙ ap (cards_from _ _) e
+returns : tie.Need-returns invariant-loop-k decreases-loop-k
+returns c = let e : c.before.loop-k.k ≡ c.before.before.args.n = omega arith in c.before.loop-k.invariant.1 ∙ ap (cards_from _ _) e
 
-pub cards-from-spec : {M : Type 1} → statement M
-cards-from-spec =
+pub cards_from_spec : {M : Type 1} → statement M
+cards_from_spec =
     tie.close
     (tie.spec
-    invariant-loop
-    decreases-loop
-    loop-holds
-    add-mask
-    shared-slice-read-mask
-    cast-mask
-    shl-mask
-    add-k
-    loop-less
-    loop-again
+    invariant-loop-k
+    decreases-loop-k
+    loop-k-init
+    overflow_add-mask
+    bounds-cards-start
+    overflow_cast-mask
+    overflow_shl-mask
+    overflow_add-k
+    loop-k-smaller
+    loop-k-preserved
     returns)

@@ -11,19 +11,25 @@ use Rattle.card.proofs.colour_mask.Tie as tie
 values : List ℕ
 values = 0xC3C3_C3C3_C3C3_C3C3 ∷ 0x3C3C_3C3C_3C3C_3C3C ∷ []
 
-mul-result : tie.Need-overflow-mul-result
-mul-result c = search rules
+offset_bounds-colour : tie.Need-offset_bounds-colour
+offset_bounds-colour c = search rules
 
-array-read-result : tie.Need-array-read-result
-array-read-result c = search rules
+bounds-colour : tie.Need-bounds-colour
+bounds-colour c = search rules
+
+returns-then-colour-lt2 : tie.Need-returns-then-colour-lt2
+unfolding values colour_mask mask_of suit flipped rank colour
+returns-then-colour-lt2 c = entries values colour_mask tt c.before.args.colour c.if-colour-lt2.true
 
 returns : tie.Need-returns
-unfolding values colour_mask mask_of suit flipped rank colour
-returns c = entries values colour_mask tt c.before.args.colour c.if1.true
-
-returns-2 : tie.Need-returns-2
 unfolding colour_mask
-returns-2 c = none_there (λ c. colour (suit c)) 2 c.before.args.colour colour_low c.if1.false
+returns c = none_there (λ c. colour (suit c)) 2 c.before.args.colour colour_low c.if-colour-lt2.false
 
-pub colour-mask-spec : {M : Type 1} → statement M
-colour-mask-spec = tie.close (tie.spec mul-result array-read-result returns returns-2)
+pub colour_mask_spec : {M : Type 1} → statement M
+colour_mask_spec =
+    tie.close
+    (tie.spec
+    offset_bounds-colour
+    bounds-colour
+    returns-then-colour-lt2
+    returns)

@@ -11,5 +11,8 @@ returns : tie.Need-returns
 unfolding constants_are mask_of flipped card_of rank pair is_king
 returns c = refl
 
-pub constants-spec : {M : Type 1} → statement M
-constants-spec = tie.close (tie.spec returns)
+pub constants_spec : {M : Type 1} → statement M
+constants_spec =
+    tie.close
+    (tie.spec
+    returns)

@@ -9,12 +9,16 @@ use Rattle.card.proofs.pile_start.Tie as tie
 values : List ℕ
 values = 0 ∷ 1 ∷ 3 ∷ 6 ∷ 10 ∷ 15 ∷ 21 ∷ []
 
-array-read-result : tie.Need-array-read-result
-array-read-result c = search rules
+bounds-pile : tie.Need-bounds-pile
+bounds-pile c = search rules
 
 returns : tie.Need-returns
 unfolding values pile_start
 returns c = entries values pile_start tt c.args.pile (search rules)
 
-pub pile-start-spec : {M : Type 1} → statement M
-pile-start-spec = tie.close (tie.spec array-read-result returns)
+pub pile_start_spec : {M : Type 1} → statement M
+pile_start_spec =
+    tie.close
+    (tie.spec
+    bounds-pile
+    returns)

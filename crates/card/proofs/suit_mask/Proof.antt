@@ -11,19 +11,25 @@ use Rattle.card.proofs.suit_mask.Tie as tie
 values : List ℕ
 values = 0x4141_4141_4141_4141 ∷ 0x8282_8282_8282_8282 ∷ 0x1414_1414_1414_1414 ∷ 0x2828_2828_2828_2828 ∷ []
 
-mul-result : tie.Need-overflow-mul-result
-mul-result c = search rules
+offset_bounds-suit : tie.Need-offset_bounds-suit
+offset_bounds-suit c = search rules
 
-array-read-result : tie.Need-array-read-result
-array-read-result c = search rules
+bounds-suit : tie.Need-bounds-suit
+bounds-suit c = search rules
+
+returns-then-suit-lt-N_SUITS : tie.Need-returns-then-suit-lt-N_SUITS
+unfolding values suit_mask mask_of suit flipped rank
+returns-then-suit-lt-N_SUITS c = entries values suit_mask tt c.before.args.suit c.if-suit-lt-N_SUITS.true
 
 returns : tie.Need-returns
-unfolding values suit_mask mask_of suit flipped rank
-returns c = entries values suit_mask tt c.before.args.suit c.if1.true
-
-returns-2 : tie.Need-returns-2
 unfolding suit_mask
-returns-2 c = none_there suit 4 c.before.args.suit suit_low c.if1.false
+returns c = none_there suit 4 c.before.args.suit suit_low c.if-suit-lt-N_SUITS.false
 
-pub suit-mask-spec : {M : Type 1} → statement M
-suit-mask-spec = tie.close (tie.spec mul-result array-read-result returns returns-2)
+pub suit_mask_spec : {M : Type 1} → statement M
+suit_mask_spec =
+    tie.close
+    (tie.spec
+    offset_bounds-suit
+    bounds-suit
+    returns-then-suit-lt-N_SUITS
+    returns)

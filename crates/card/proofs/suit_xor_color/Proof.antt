@@ -7,5 +7,8 @@ use Rattle.card.proofs.suit_xor_color.Tie as tie
 returns : tie.Need-returns
 returns c = flip_is c.args.v c.ranges.v.fits
 
-pub suit-xor-color-spec : {M : Type 1} → statement M
-suit-xor-color-spec = tie.close (tie.spec returns)
+pub suit_xor_color_spec : {M : Type 1} → statement M
+suit_xor_color_spec =
+    tie.close
+    (tie.spec
+    returns)

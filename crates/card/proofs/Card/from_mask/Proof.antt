@@ -7,22 +7,29 @@ use Rattle.card.specs.Methods.{first_card}
 use Rattle.card.proofs.Card.from_mask.Statement.{statement}
 use Rattle.card.proofs.Card.from_mask.Tie as tie
 
-lowest-card-requires : tie.Need-lowest-card-requires
-lowest-card-requires c κs = search rules
+lowest_card-lowest-requires : tie.Need-lowest_card-lowest-requires
+lowest_card-lowest-requires c κs = search rules
 
-cast-if1 : tie.Need-overflow-cast-if1
-cast-if1 c = search rules
+overflow_cast-t-3 : tie.Need-overflow_cast-t-3
+overflow_cast-t-3 c = search rules
 
-cast-t5 : tie.Need-overflow-cast-t5
-cast-t5 c = search rules
+overflow_cast-result : tie.Need-overflow_cast-result
+overflow_cast-result c = search rules
+
+returns-then-lowest : tie.Need-returns-then-lowest
+unfolding first_card
+returns-then-lowest c = rw (lt-ltb (first_of 64 (bit c.before.before.args.v)) 52 (omega (arith, c.before.lowest_card-lowest.ensures, c.if-lowest.true))) (ap (λ (n : ℕ). Card (record { 0 = n })) c.before.lowest_card-lowest.ensures)
 
 returns : tie.Need-returns
 unfolding first_card
-returns c = rw (lt-ltb (first_of 64 (bit c.before.before.args.v)) 52 (omega (arith, c.before.lowest-card.ensures, c.if1.true))) (ap (λ (n : ℕ). Card (record { 0 = n })) c.before.lowest-card.ensures)
+returns c = rw (le-ltb (first_of 64 (bit c.before.before.args.v)) 52 (omega (arith, c.before.lowest_card-lowest.ensures, c.if-lowest.false)))
 
-returns-2 : tie.Need-returns-2
-unfolding first_card
-returns-2 c = rw (le-ltb (first_of 64 (bit c.before.before.args.v)) 52 (omega (arith, c.before.lowest-card.ensures, c.if1.false)))
-
-pub from-mask-spec : {M : Type 1} → statement M
-from-mask-spec = tie.close (tie.spec lowest-card-requires cast-if1 cast-t5 returns returns-2)
+pub from_mask_spec : {M : Type 1} → statement M
+from_mask_spec =
+    tie.close
+    (tie.spec
+    lowest_card-lowest-requires
+    overflow_cast-t-3
+    overflow_cast-result
+    returns-then-lowest
+    returns)

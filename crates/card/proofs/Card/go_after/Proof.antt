@@ -6,47 +6,46 @@ use Rattle.card.proofs.Bytes.{lies_is}
 use Rattle.card.proofs.Card.go_after.Statement.{statement}
 use Rattle.card.proofs.Card.go_after.Tie as tie
 
-enum-known-other : tie.Need-enum-known-other
-enum-known-other c = search rules
+enum_known-other : tie.Need-enum_known-other
+enum_known-other c = search rules
 
-cast-result : tie.Need-overflow-cast-result
-cast-result c = search rules
+overflow_cast-result : tie.Need-overflow_cast-result
+overflow_cast-result c = search rules
 
-cast-result-2 : tie.Need-overflow-cast-result-2
-cast-result-2 c = search rules
+overflow_cast-result-in-Card : tie.Need-overflow_cast-result-in-Card
+overflow_cast-result-in-Card c = search rules
 
-add-result : tie.Need-overflow-add-result
-add-result c = search rules
+overflow_add-result : tie.Need-overflow_add-result
+overflow_add-result c = search rules
 
-cast-result-3 : tie.Need-overflow-cast-result-3
-cast-result-3 c = search rules
+overflow_cast-result-in-Card-2 : tie.Need-overflow_cast-result-in-Card-2
+overflow_cast-result-in-Card-2 c = search rules
 
-enum_told : tie.Need-enum-told
-enum_told c = search rules
+enum_told-1 : tie.Need-enum_told-1
+enum_told-1 c = search rules
 
-is-king-requires : tie.Need-is-king-requires
-is-king-requires c κs = search rules
+is_king-requires : tie.Need-is_king-requires
+is_king-requires c κs = search rules
 
-returns : tie.Need-returns
+returns-in-Card : tie.Need-returns-in-Card
 unfolding goes_after
-returns c =
-    let n = c.before.before.before.before.before.args.self.0 in
-    lies_is n c.before.before.before.other.given.0.0.0 ∙ sym (ap (goes_after n) c.before.before.before.other.given.1)
+returns-in-Card c =
+    lies_is c.args.self.0 c.in-Card.under.0 ∙ sym (ap (goes_after c.args.self.0) c.in-Card.is)
 
-returns-2 : tie.Need-returns-2
+returns-in-Nothing : tie.Need-returns-in-Nothing
 unfolding goes_after
-returns-2 c = c.is-king.ensures ∙ sym (ap (goes_after c.before.before.before.args.self.0) c.before.enum_told.given.1)
+returns-in-Nothing c = c.is_king.ensures ∙ sym (ap (goes_after c.args.self.0) c.in-Nothing.is)
 
-pub go-after-spec : {M : Type 1} → statement M
-go-after-spec =
+pub go_after_spec : {M : Type 1} → statement M
+go_after_spec =
     tie.close
     (tie.spec
-    enum-known-other
-    cast-result
-    cast-result-2
-    add-result
-    cast-result-3
-    enum_told
-    is-king-requires
-    returns
-    returns-2)
+    enum_known-other
+    overflow_cast-result
+    overflow_cast-result-in-Card
+    overflow_add-result
+    overflow_cast-result-in-Card-2
+    enum_told-1
+    is_king-requires
+    returns-in-Card
+    returns-in-Nothing)

@@ -12,5 +12,9 @@ returns : tie.Need-returns
 unfolding king_or_fake
 returns c = ap (leb 12) c.rank.ensures
 
-pub is-king-spec : {M : Type 1} → statement M
-is-king-spec = tie.close (tie.spec rank-requires returns)
+pub is_king_spec : {M : Type 1} → statement M
+is_king_spec =
+    tie.close
+    (tie.spec
+    rank-requires
+    returns)

@@ -5,17 +5,23 @@ use Rattle.card.proofs.Suits.{none_at}
 use Rattle.card.proofs.Card.mask.Statement.{statement}
 use Rattle.card.proofs.Card.mask.Tie as tie
 
-cast-card-mask : tie.Need-overflow-cast-card-mask
-cast-card-mask c = search rules
+overflow_cast-self : tie.Need-overflow_cast-self
+overflow_cast-self c = search rules
 
-card-mask-requires : tie.Need-card-mask-requires
-card-mask-requires c κs = search rules
+card_mask-requires : tie.Need-card_mask-requires
+card_mask-requires c κs = search rules
+
+returns-then-self-lt64 : tie.Need-returns-then-self-lt64
+returns-then-self-lt64 c = search rules
 
 returns : tie.Need-returns
-returns c = search rules
+returns c = none_at c.before.before.args.self.0 c.if-self-lt64.false
 
-returns-2 : tie.Need-returns-2
-returns-2 c = none_at c.before.before.args.self.0 c.if1.false
-
-pub mask-spec : {M : Type 1} → statement M
-mask-spec = tie.close (tie.spec cast-card-mask card-mask-requires returns returns-2)
+pub mask_spec : {M : Type 1} → statement M
+mask_spec =
+    tie.close
+    (tie.spec
+    overflow_cast-self
+    card_mask-requires
+    returns-then-self-lt64
+    returns)

@@ -9,5 +9,8 @@ returns : tie.Need-returns
 unfolding rank
 returns c = refl
 
-pub rank-spec : {M : Type 1} → statement M
-rank-spec = tie.close (tie.spec returns)
+pub rank_spec : {M : Type 1} → statement M
+rank_spec =
+    tie.close
+    (tie.spec
+    returns)

@@ -5,16 +5,21 @@ use Rattle.card.specs.Methods.{below}
 use Rattle.card.proofs.Card.reduce_rank_swap_color.Statement.{statement}
 use Rattle.card.proofs.Card.reduce_rank_swap_color.Tie as tie
 
-sub-t3 : tie.Need-overflow-sub-t3
-sub-t3 c = search rules
+overflow_sub-result : tie.Need-overflow_sub-result
+overflow_sub-result c = search rules
+
+returns-then-self-gt-SUITS : tie.Need-returns-then-self-gt-SUITS
+unfolding below
+returns-then-self-gt-SUITS c = omega arith
 
 returns : tie.Need-returns
 unfolding below
 returns c = omega arith
 
-returns-2 : tie.Need-returns-2
-unfolding below
-returns-2 c = omega arith
-
-pub reduce-rank-swap-color-spec : {M : Type 1} → statement M
-reduce-rank-swap-color-spec = tie.close (tie.spec sub-t3 returns returns-2)
+pub reduce_rank_swap_color_spec : {M : Type 1} → statement M
+reduce_rank_swap_color_spec =
+    tie.close
+    (tie.spec
+    overflow_sub-result
+    returns-then-self-gt-SUITS
+    returns)

@@ -15,5 +15,10 @@ returns : tie.Need-returns
 unfolding split_of
 returns c = ap₂ (λ (r s : ℕ). record { rank = r; suit = s }) c.before.rank.ensures c.suit.ensures
 
-pub split-spec : {M : Type 1} → statement M
-split-spec = tie.close (tie.spec rank-requires suit-requires returns)
+pub split_spec : {M : Type 1} → statement M
+split_spec =
+    tie.close
+    (tie.spec
+    rank-requires
+    suit-requires
+    returns)

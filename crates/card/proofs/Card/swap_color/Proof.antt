@@ -8,5 +8,8 @@ use Rattle.card.proofs.Card.swap_color.Tie as tie
 returns : tie.Need-returns
 returns c = twin_is c.before.args.self.0 (search rules)
 
-pub swap-color-spec : {M : Type 1} → statement M
-swap-color-spec = tie.close (tie.spec returns)
+pub swap_color_spec : {M : Type 1} → statement M
+swap_color_spec =
+    tie.close
+    (tie.spec
+    returns)

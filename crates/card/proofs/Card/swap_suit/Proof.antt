@@ -8,5 +8,8 @@ use Rattle.card.proofs.Card.swap_suit.Tie as tie
 returns : tie.Need-returns
 returns c = partner_is c.before.args.self.0 (search rules)
 
-pub swap-suit-spec : {M : Type 1} → statement M
-swap-suit-spec = tie.close (tie.spec returns)
+pub swap_suit_spec : {M : Type 1} → statement M
+swap_suit_spec =
+    tie.close
+    (tie.spec
+    returns)
