@@ -9,24 +9,30 @@ use borrow.Author.Rules.{rules}
 use Rattle.deck_cursor.proofs.deal_once.Statement.{statement}
 use Rattle.deck_cursor.proofs.deal_once.Tie as tie
 
-refusal-requires : tie.Need-refusal-requires
-refusal-requires c κs = search rules
+refusal-no-requires : tie.Need-refusal-no-requires
+refusal-no-requires c κs = search rules
 
-offset-once-requires : tie.Need-offset-once-requires
-offset-once-requires c κs = in_range c.before.before.args.c (sym c.before.refusal.ensures ∙ c.if1.true)
+offset_once-to-requires : tie.Need-offset_once-to-requires
+offset_once-to-requires c κs = in_range c.args.c (sym c.refusal-no.ensures ∙ c.if-no-eq-ACCEPTED.true)
 
-returns : tie.Need-returns
-returns c =
-    let k = c.before.before.before.args.c in
-    let no = c.before.before.refusal.ensures in
-    ap₂ {C = DealtOnce} (λ (r o : ℕ). record { refusal = r; cursor = cursor_of k.len k.step o }) no (c.offset-once.ensures ∙ sym (accepted_turns k (sym no ∙ c.before.if1.true)))
+returns-then-no-eq-ACCEPTED : tie.Need-returns-then-no-eq-ACCEPTED
+returns-then-no-eq-ACCEPTED c =
+    let k = c.args.c in
+    let no = c.refusal-no.ensures in
+    ap₂ {C = DealtOnce} (λ (r o : ℕ). record { refusal = r; cursor = cursor_of k.len k.step o }) no (c.offset_once-to.ensures ∙ sym (accepted_turns k (sym no ∙ c.if-no-eq-ACCEPTED.true)))
     ∙ sym (answer_is k)
 
-returns-2 : tie.Need-returns-2
-returns-2 c =
-    let k = c.before.before.args.c in
-    let no = c.before.refusal.ensures in
-    ap₂ {C = DealtOnce} (λ (r o : ℕ). record { refusal = r; cursor = cursor_of k.len k.step o }) no (sym (refused_stays k (λ e. c.if1.false (no ∙ e)))) ∙ sym (answer_is k)
+returns-else-no-eq-ACCEPTED : tie.Need-returns-else-no-eq-ACCEPTED
+returns-else-no-eq-ACCEPTED c =
+    let k = c.args.c in
+    let no = c.refusal-no.ensures in
+    ap₂ {C = DealtOnce} (λ (r o : ℕ). record { refusal = r; cursor = cursor_of k.len k.step o }) no (sym (refused_stays k (λ e. c.if-no-eq-ACCEPTED.false (no ∙ e)))) ∙ sym (answer_is k)
 
-pub deal-once-spec : {M : Type 1} → statement M
-deal-once-spec = tie.close (tie.spec refusal-requires offset-once-requires returns returns-2)
+pub deal_once_spec : {M : Type 1} → statement M
+deal_once_spec =
+    tie.close
+    (tie.spec
+    refusal-no-requires
+    offset_once-to-requires
+    returns-then-no-eq-ACCEPTED
+    returns-else-no-eq-ACCEPTED)

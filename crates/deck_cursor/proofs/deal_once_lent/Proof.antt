@@ -1,4 +1,5 @@
 -- `deck_cursor::deal_once_lent` meets its contract: LentDeal walks its code.
+use borrow.Author.Rules.{rules}
 use contract.Running.{tables, tables_of}
 use denote.Triple.Spec.{triple_of}
 use denote.Triple.Table.{entered, cited}
@@ -11,10 +12,15 @@ use Rattle.deck_cursor.specs.contracts.deal_once_lent as once
 use Rattle.deck_cursor.proofs.deal_once_lent.Statement as stated
 use Rattle.deck_cursor.proofs.deal_once_lent.Code as code
 
-pub deal-once-lent-spec : {M : Type 1} → stated.statement M
-unfolding code.routine tables_of
-deal-once-lent-spec 𝓤 𝓛 𝓜 𝓡 =
-    entered 𝓤 𝓛.H (triple_of 𝓛 once.signature (once.spec 𝓛 𝓜.mem 𝓡.run))
-    (tables 𝓤 𝓛.H 𝓜 𝓡 code.env).C (tables 𝓤 𝓛.H 𝓜 𝓡 code.env).Λ #deck-cursor·deal-once-lent code.function (code.unfolded 𝓤 𝓛.H 𝓜 𝓡)
-    (once_meets 𝓛 𝓜.mem 𝓡.run (tables_of 𝓤 𝓛.H 𝓜 (tables 𝓤 𝓛.H 𝓜 𝓡 code.env))
-    (cited 𝓤 𝓛.H (Deal 𝓛 𝓜.mem 𝓡.run) 𝓜 𝓡 code.env #deck-cursor·deal-once deal-def.routine code.calls-deck-cursor::deal-once (deal-thm.met 𝓤 𝓛 𝓜 𝓡)))
+deal_once-got-requires : tie.Need-deal_once-got-requires
+deal_once-got-requires c κs = search rules
+
+returns : tie.Need-returns
+returns c = search rules
+
+pub deal_once_lent_spec : {M : Type 1} → statement M
+deal_once_lent_spec =
+    tie.close
+    (tie.spec
+    deal_once-got-requires
+    returns)

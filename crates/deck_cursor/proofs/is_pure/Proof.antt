@@ -5,14 +5,19 @@ use borrow.Author.Rules.{rules}
 use Rattle.deck_cursor.proofs.is_pure.Statement.{statement}
 use Rattle.deck_cursor.proofs.is_pure.Tie as tie
 
-rem-if1 : tie.Need-nonzero-rem-if1
-rem-if1 c = search rules
+nonzero_rem-cur : tie.Need-nonzero_rem-cur
+nonzero_rem-cur c = search rules
+
+returns-then-cur-step-eq0 : tie.Need-returns-then-cur-step-eq0
+returns-then-cur-step-eq0 c = simp (eq-eqb _ 0 c.if-cur-step-eq0.true)
 
 returns : tie.Need-returns
-returns c = simp (eq-eqb _ 0 c.if1.true)
+returns c = simp (ne_eqb _ 0 c.if-cur-step-eq0.false)
 
-returns-2 : tie.Need-returns-2
-returns-2 c = simp (ne_eqb _ 0 c.if1.false)
-
-pub is-pure-spec : {M : Type 1} → statement M
-is-pure-spec = tie.close (tie.spec rem-if1 returns returns-2)
+pub is_pure_spec : {M : Type 1} → statement M
+is_pure_spec =
+    tie.close
+    (tie.spec
+    nonzero_rem-cur
+    returns-then-cur-step-eq0
+    returns)

@@ -9,5 +9,8 @@ returns : tie.Need-returns
 unfolding step_right
 returns c = refl
 
-pub is-step-spec : {M : Type 1} → statement M
-is-step-spec = tie.close (tie.spec returns)
+pub is_step_spec : {M : Type 1} → statement M
+is_step_spec =
+    tie.close
+    (tie.spec
+    returns)

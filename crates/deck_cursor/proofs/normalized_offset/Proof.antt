@@ -7,16 +7,21 @@ use borrow.Author.Rules.{rules}
 use Rattle.deck_cursor.proofs.normalized_offset.Statement.{statement}
 use Rattle.deck_cursor.proofs.normalized_offset.Tie as tie
 
-is-pure-requires : tie.Need-is-pure-requires
-is-pure-requires c κs = search rules
+is_pure-requires : tie.Need-is_pure-requires
+is_pure-requires c κs = search rules
 
-returns : tie.Need-returns
+returns-then-is_pure : tie.Need-returns-then-is_pure
 unfolding stored_offset
-returns c = let a = c.before.before.args in ap (λ (b : Bool). cond b a.len a.cur) (sym c.if1.true ∙ c.before.is-pure.ensures)
+returns-then-is_pure c = let a = c.args in ap (λ (b : Bool). cond b a.len a.cur) (sym c.if-is_pure.true ∙ c.is_pure.ensures)
 
-returns-2 : tie.Need-returns-2
+returns-else-is_pure : tie.Need-returns-else-is_pure
 unfolding stored_offset
-returns-2 c = let a = c.before.before.args in ap (λ (b : Bool). cond b a.len a.cur) (sym c.if1.false ∙ c.before.is-pure.ensures)
+returns-else-is_pure c = let a = c.args in ap (λ (b : Bool). cond b a.len a.cur) (sym c.if-is_pure.false ∙ c.is_pure.ensures)
 
-pub normalized-offset-spec : {M : Type 1} → statement M
-normalized-offset-spec = tie.close (tie.spec is-pure-requires returns returns-2)
+pub normalized_offset_spec : {M : Type 1} → statement M
+normalized_offset_spec =
+    tie.close
+    (tie.spec
+    is_pure-requires
+    returns-then-is_pure
+    returns-else-is_pure)

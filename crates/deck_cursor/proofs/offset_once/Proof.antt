@@ -6,17 +6,23 @@ use borrow.Author.Rules.{rules}
 use Rattle.deck_cursor.proofs.offset_once.Statement.{statement}
 use Rattle.deck_cursor.proofs.offset_once.Tie as tie
 
-returns : tie.Need-returns
-returns c = let a = c.before.args in sym (dealt_end a.len a.step a.cur c.if1.true)
+returns-then-len-cur : tie.Need-returns-then-len-cur
+returns-then-len-cur c = let a = c.args in sym (dealt_end a.len a.step a.cur c.if-len-cur.true)
 
-add-min : tie.Need-overflow-add-min
-add-min c = search rules
+overflow_add-cur : tie.Need-overflow_add-cur
+overflow_add-cur c = search rules
 
 min-requires : tie.Need-min-requires
 min-requires c κs = search rules
 
-returns-2 : tie.Need-returns-2
-returns-2 c = let a = c.before.before.args in c.min.ensures ∙ sym (dealt_on a.len a.step a.cur c.before.if1.false)
+returns : tie.Need-returns
+returns c = let a = c.args in c.min.ensures ∙ sym (dealt_on a.len a.step a.cur c.if-len-cur.false)
 
-pub offset-once-spec : {M : Type 1} → statement M
-offset-once-spec = tie.close (tie.spec returns add-min min-requires returns-2)
+pub offset_once_spec : {M : Type 1} → statement M
+offset_once_spec =
+    tie.close
+    (tie.spec
+    returns-then-len-cur
+    overflow_add-cur
+    min-requires
+    returns)

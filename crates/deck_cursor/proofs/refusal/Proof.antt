@@ -10,30 +10,37 @@ use Rattle.deck_cursor.proofs.refusal.Statement.{statement}
 use Rattle.deck_cursor.proofs.refusal.Tie as tie
 
 -- the step is none, or it is one
-wrong-step : (c : tie.Then1) → step_right c.before.before.args.step ≡ false
-wrong-step c = sym c.before.is-step.ensures ∙ not-true c.before.is-step.result c.if1.true
+wrong-step : (c : tie.Then-not-is_step) → step_right c.args.step ≡ false
+wrong-step c = sym c.is_step.ensures ∙ not-true c.is_step.result c.if-not-is_step.true
 
-right-step : (c : tie.Else1) → step_right c.before.before.args.step ≡ true
-right-step c = sym c.before.is-step.ensures ∙ not-false c.before.is-step.result c.if1.false
+right-step : (c : tie.Else-not-is_step) → step_right c.args.step ≡ true
+right-step c = sym c.is_step.ensures ∙ not-false c.is_step.result c.if-not-is_step.false
 
-is-step-requires : tie.Need-is-step-requires
-is-step-requires c κs = search rules
+is_step-requires : tie.Need-is_step-requires
+is_step-requires c κs = search rules
+
+returns-then-not-is_step : tie.Need-returns-then-not-is_step
+unfolding cursor_refusal
+returns-then-not-is_step c = simp (wrong-step c)
+
+returns-then-len-gt-FULL_DECK : tie.Need-returns-then-len-gt-FULL_DECK
+unfolding cursor_refusal
+returns-then-len-gt-FULL_DECK c = simp (right-step c.before, lt-ltb _ _ c.if-len-gt-FULL_DECK.true)
+
+returns-then-len-cur : tie.Need-returns-then-len-cur
+unfolding cursor_refusal
+returns-then-len-cur c = simp (right-step c.before, le-ltb _ _ c.if-len-gt-FULL_DECK.false, lt-ltb _ _ c.if-len-cur.true)
 
 returns : tie.Need-returns
 unfolding cursor_refusal
-returns c = simp (wrong-step c)
+returns c = simp (right-step c.before, le-ltb _ _ c.if-len-gt-FULL_DECK.false, le-ltb _ _ c.if-len-cur.false)
 
-returns-2 : tie.Need-returns-2
-unfolding cursor_refusal
-returns-2 c = simp (right-step c.before, lt-ltb _ _ c.if2.true)
-
-returns-3 : tie.Need-returns-3
-unfolding cursor_refusal
-returns-3 c = simp (right-step c.before.before, le-ltb _ _ c.before.if2.false, lt-ltb _ _ c.if3.true)
-
-returns-4 : tie.Need-returns-4
-unfolding cursor_refusal
-returns-4 c = simp (right-step c.before.before, le-ltb _ _ c.before.if2.false, le-ltb _ _ c.if3.false)
-
-pub refusal-spec : {M : Type 1} → statement M
-refusal-spec = tie.close (tie.spec is-step-requires returns returns-2 returns-3 returns-4)
+pub refusal_spec : {M : Type 1} → statement M
+refusal_spec =
+    tie.close
+    (tie.spec
+    is_step-requires
+    returns-then-not-is_step
+    returns-then-len-gt-FULL_DECK
+    returns-then-len-cur
+    returns)

@@ -13,58 +13,58 @@ use borrow.Author.Rules.{rules}
 use Rattle.deck_masks.proofs.any_mask.Statement.{statement}
 use Rattle.deck_masks.proofs.any_mask.Tie as tie
 
-cast-left : tie.Need-overflow-cast-left
-cast-left c = search rules
+overflow_cast-left : tie.Need-overflow_cast-left
+overflow_cast-left c = search rules
 
-cast-step : tie.Need-overflow-cast-step
-cast-step c = search rules
+overflow_cast-step : tie.Need-overflow_cast-step
+overflow_cast-step c = search rules
 
-cast-offset : tie.Need-overflow-cast-offset
-cast-offset c = search rules
+overflow_cast-offset : tie.Need-overflow_cast-offset
+overflow_cast-offset c = search rules
 
-rem-if1 : tie.Need-nonzero-rem-if1
-rem-if1 c = (facts c.before.before.before.before.args.p c.before.before.before.before.requires).step-pos
+nonzero_rem-offset : tie.Need-nonzero_rem-offset
+nonzero_rem-offset c = (facts c.args.p c.requires).step_pos
 
-sub-end : tie.Need-overflow-sub-end
-sub-end c = search rules
+overflow_sub-end : tie.Need-overflow_sub-end
+overflow_sub-end c = search rules
 
-soon-mask-requires : tie.Need-soon-mask-requires
-soon-mask-requires c κs = search rules
+soon_mask-requires : tie.Need-soon_mask-requires
+soon_mask-requires c κs = search rules
 
-sub-walk : tie.Need-overflow-sub-walk
-sub-walk c = omega (arith, (facts c.before.before.before.before.before.before.before.args.p c.before.before.before.before.before.before.before.requires).step-pos)
+overflow_sub-step : tie.Need-overflow_sub-step
+overflow_sub-step c = omega (arith, (facts c.args.p c.requires).step_pos)
 
-end : (c : tie.After-soon-mask) → Ends c.before.before.before.before.before.before.before.args.p c.before.if2.end
+end : (c : tie.After-soon_mask) → Ends c.args.p c.if-end-gt0.end
 end c =
-    let p = c.before.before.before.before.before.before.before.args.p in
-    let f = facts p c.before.before.before.before.before.before.before.requires in
-    let less : c.before.if2.end ≡ c.before.before.if1.end - 1 = ⊎_elim (λ w. omega (arith, w.2)) (λ w. omega (arith, w.0.left, w.1)) c.before.if2.branch in
-    ⊎_elim (λ w. ends_off p c.before.if2.end (omega (arith, w.1))) (λ w. ends_pure p c.before.if2.end f.offset w.0.left (omega (arith, w.1))) c.before.before.if1.branch
+    let p = c.args.p in
+    let f = facts p c.requires in
+    let less : c.if-end-gt0.end ≡ c.if-offset-step-ne0.end - 1 = ⊎_elim (λ w. omega (arith, w.2)) (λ w. omega (arith, w.0.left, w.1)) c.if-end-gt0.branch in
+    ⊎_elim (λ w. ends_off p c.if-end-gt0.end (omega (arith, w.1))) (λ w. ends_pure p c.if-end-gt0.end f.offset w.0.left (omega (arith, w.1))) c.if-offset-step-ne0.branch
 
 walk-requires : tie.Need-walk-requires
 walk-requires c κs =
-    let p = c.before.before.before.before.before.before.before.args.p in
-    let f = facts p c.before.before.before.before.before.before.before.requires in
+    let p = c.args.p in
+    let f = facts p c.requires in
     let e = end c in
-    (f.step-pos, f.step, omega (arith, f.step), omega (arith, e.within, f.left), λ k l. deck_cards p _ c.before.before.before.before.before.before.before.well-formed.0 c.before.before.before.before.before.before.before.requires k (omega (arith, e.within)))
+    (f.step_pos, f.step, omega (arith, f.step), omega (arith, e.within, f.left), λ k l. deck_cards p _ c.well_formed.0 c.requires k (omega (arith, e.within)))
 
 returns : tie.Need-returns
 unfolding find
 returns c =
-    let p = c.before.before.before.before.before.before.before.before.args.p in
-    let f = facts p c.before.before.before.before.before.before.before.before.requires in
-    ap₂ bit_or c.before.soon-mask.ensures c.walk.ensures ∙ round p c.before.before.if2.end f.left f.step-pos f.offset (end c.before)
+    let p = c.args.p in
+    let f = facts p c.requires in
+    ap₂ bit_or c.soon_mask.ensures c.walk.ensures ∙ round p c.if-end-gt0.end f.left f.step_pos f.offset (end c.before)
 
-pub any-mask-spec : {M : Type 1} → statement M
-any-mask-spec =
+pub any_mask_spec : {M : Type 1} → statement M
+any_mask_spec =
     tie.close
     (tie.spec
-    cast-left
-    cast-step
-    cast-offset
-    rem-if1
-    sub-end
-    soon-mask-requires
-    sub-walk
+    overflow_cast-left
+    overflow_cast-step
+    overflow_cast-offset
+    nonzero_rem-offset
+    overflow_sub-end
+    soon_mask-requires
+    overflow_sub-step
     walk-requires
     returns)

@@ -8,17 +8,23 @@ use borrow.Author.Rules.{rules}
 use Rattle.deck_masks.proofs.compute_mask.Statement.{statement}
 use Rattle.deck_masks.proofs.compute_mask.Tie as tie
 
-soon-mask-requires : tie.Need-soon-mask-requires
-soon-mask-requires c κs = search rules
+soon_mask-requires : tie.Need-soon_mask-requires
+soon_mask-requires c κs = search rules
+
+returns-then-filter : tie.Need-returns-then-filter
+returns-then-filter c = let p = c.args.p in c.soon_mask.ensures ∙ ap (λ (b : Bool). mask_of 52 (cond b (available_soon p) (available p))) (sym c.if-filter.true)
+
+any_mask-requires : tie.Need-any_mask-requires
+any_mask-requires c κs = search rules
 
 returns : tie.Need-returns
-returns c = let p = c.before.before.args.p in c.soon-mask.ensures ∙ ap (λ (b : Bool). mask_of 52 (cond b (available_soon p) (available p))) (sym c.before.if1.true)
+returns c = let p = c.args.p in c.any_mask.ensures ∙ ap (λ (b : Bool). mask_of 52 (cond b (available_soon p) (available p))) (sym c.if-filter.false)
 
-any-mask-requires : tie.Need-any-mask-requires
-any-mask-requires c κs = search rules
-
-returns-2 : tie.Need-returns-2
-returns-2 c = let p = c.before.before.args.p in c.any-mask.ensures ∙ ap (λ (b : Bool). mask_of 52 (cond b (available_soon p) (available p))) (sym c.before.if1.false)
-
-pub compute-mask-spec : {M : Type 1} → statement M
-compute-mask-spec = tie.close (tie.spec soon-mask-requires returns any-mask-requires returns-2)
+pub compute_mask_spec : {M : Type 1} → statement M
+compute_mask_spec =
+    tie.close
+    (tie.spec
+    soon_mask-requires
+    returns-then-filter
+    any_mask-requires
+    returns)

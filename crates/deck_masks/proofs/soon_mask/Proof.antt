@@ -25,70 +25,70 @@ empty : (p : Position) → p.left ≡ 0 → 0 ≡ mask_of 52 (available_soon p)
 unfolding available_soon
 empty p e = none_yet (λ c k. eqb (deck_card p k) c && place_soon p k) ∙ ap (λ (n : ℕ). mask_of 52 (λ c. any_of n (λ k. eqb (deck_card p k) c && place_soon p k))) (sym e)
 
-cast-left : tie.Need-overflow-cast-left
-cast-left c = search rules
+overflow_cast-left : tie.Need-overflow_cast-left
+overflow_cast-left c = search rules
 
-cast-step : tie.Need-overflow-cast-step
-cast-step c = search rules
+overflow_cast-step : tie.Need-overflow_cast-step
+overflow_cast-step c = search rules
 
-cast-offset : tie.Need-overflow-cast-offset
-cast-offset c = search rules
+overflow_cast-offset : tie.Need-overflow_cast-offset
+overflow_cast-offset c = search rules
 
-returns : tie.Need-returns
-returns c = empty c.before.before.before.before.before.args.p c.if1.true
+returns-then-left-eq0 : tie.Need-returns-then-left-eq0
+returns-then-left-eq0 c = empty c.args.p c.if-left-eq0.true
 
-sub-last : tie.Need-overflow-sub-last
-sub-last c = search rules
+overflow_sub-last : tie.Need-overflow_sub-last
+overflow_sub-last c = search rules
 
-sub-from : tie.Need-overflow-sub-from
-sub-from c = omega (arith, (facts c.before.before.before.before.before.args.p c.before.before.before.before.before.requires).step-pos)
+overflow_sub-from : tie.Need-overflow_sub-from
+overflow_sub-from c = omega (arith, (facts c.args.p c.requires).step_pos)
 
-sub-from-2 : tie.Need-overflow-sub-from-2
-sub-from-2 c = search rules
+overflow_sub-from-then-offset-gt0 : tie.Need-overflow_sub-from-then-offset-gt0
+overflow_sub-from-then-offset-gt0 c = search rules
 
 walk-requires : tie.Need-walk-requires
 walk-requires c κs =
-    let f = facts c.before.before.before.before.before.before.args.p c.before.before.before.before.before.before.requires in
-    let low : c.if2.from ≤ 24 = ⊎_elim (λ w. omega (arith, f.left, f.offset)) (λ w. omega (arith, f.step)) c.if2.branch in
-    (f.step-pos, f.step, low, omega (arith, f.left), λ k l. deck_cards c.before.before.before.before.before.before.args.p _ c.before.before.before.before.before.before.well-formed.0 c.before.before.before.before.before.before.requires k (omega arith))
+    let f = facts c.args.p c.requires in
+    let low : c.if-offset-gt0.from ≤ 24 = ⊎_elim (λ w. omega (arith, f.left, f.offset)) (λ w. omega (arith, f.step)) c.if-offset-gt0.branch in
+    (f.step_pos, f.step, low, omega (arith, f.left), λ k l. deck_cards c.args.p _ c.well_formed.0 c.requires k (omega arith))
 
-array-read-card-mask : tie.Need-array-read-card-mask
-array-read-card-mask c = omega (arith, (facts c.before.before.before.before.before.before.before.args.p c.before.before.before.before.before.before.before.requires).left)
+bounds-deck-last : tie.Need-bounds-deck-last
+bounds-deck-last c = omega (arith, (facts c.args.p c.requires).left)
 
-cast-card-mask : tie.Need-overflow-cast-card-mask
-cast-card-mask c = omega (arith, deck_cards c.before.before.before.before.before.before.before.args.p _ c.before.before.before.before.before.before.before.well-formed.0 c.before.before.before.before.before.before.before.requires (c.before.before.before.before.before.before.before.args.p.left - 1) (omega arith))
+overflow_cast-deck : tie.Need-overflow_cast-deck
+overflow_cast-deck c = omega (arith, deck_cards c.args.p _ c.well_formed.0 c.requires (c.args.p.left - 1) (omega arith))
 
-card-mask-requires : tie.Need-card-mask-requires
-card-mask-requires c κs = omega (arith, deck_cards c.before.before.before.before.before.before.before.args.p _ c.before.before.before.before.before.before.before.well-formed.0 c.before.before.before.before.before.before.before.requires (c.before.before.before.before.before.before.before.args.p.left - 1) (omega arith))
+card_mask-requires : tie.Need-card_mask-requires
+card_mask-requires c κs = omega (arith, deck_cards c.args.p _ c.well_formed.0 c.requires (c.args.p.left - 1) (omega arith))
 
-returns-2 : tie.Need-returns-2
+returns : tie.Need-returns
 unfolding find
-returns-2 c =
-    let p = c.before.before.before.before.before.before.before.before.args.p in
-    let f = facts p c.before.before.before.before.before.before.before.before.requires in
+returns c =
+    let p = c.args.p in
+    let f = facts p c.requires in
     let n : 0 < p.left = omega arith in
-    let from = c.before.before.if2.from in
+    let from = c.if-offset-gt0.from in
     let s : Starts from p.offset p.step =
     ⊎_elim
     (λ w. subst (λ (x : ℕ). Starts x p.offset p.step) (sym w.1) (starts_pos p.offset p.step w.0.taken))
-    (λ w. subst (λ (x : ℕ). Starts x p.offset p.step) (sym w.1) (starts_zero p.offset p.step f.step-pos w.0.left))
-    c.before.before.if2.branch in
-    ap₂ bit_or c.before.walk.ensures c.card-mask.ensures
-    ∙ soon p from f.left f.step-pos f.offset n (deck_cards p _ c.before.before.before.before.before.before.before.before.well-formed.0 c.before.before.before.before.before.before.before.before.requires (p.left - 1) (omega arith)) s
+    (λ w. subst (λ (x : ℕ). Starts x p.offset p.step) (sym w.1) (starts_zero p.offset p.step f.step_pos w.0.left))
+    c.if-offset-gt0.branch in
+    ap₂ bit_or c.walk.ensures c.card_mask.ensures
+    ∙ soon p from f.left f.step_pos f.offset n (deck_cards p _ c.well_formed.0 c.requires (p.left - 1) (omega arith)) s
 
-pub soon-mask-spec : {M : Type 1} → statement M
-soon-mask-spec =
+pub soon_mask_spec : {M : Type 1} → statement M
+soon_mask_spec =
     tie.close
     (tie.spec
-    cast-left
-    cast-step
-    cast-offset
-    returns
-    sub-last
-    sub-from
-    sub-from-2
+    overflow_cast-left
+    overflow_cast-step
+    overflow_cast-offset
+    returns-then-left-eq0
+    overflow_sub-last
+    overflow_sub-from
+    overflow_sub-from-then-offset-gt0
     walk-requires
-    array-read-card-mask
-    cast-card-mask
-    card-mask-requires
-    returns-2)
+    bounds-deck-last
+    overflow_cast-deck
+    card_mask-requires
+    returns)

@@ -26,11 +26,11 @@ record Inv (from step end : ℕ) (d : List ℕ) (mask i : ℕ) : Type 0 where
   seen : mask ≡ mask_of 52 (λ c. any_of i (find d from step c))
   rest : (k : ℕ) → end ≤ k → k < i → on from step k ≡ false
 
-abbrev invariant-loop : tie.invariant-loop
-invariant-loop from step end deck mask₀ i₀ mask i = Inv from step end deck mask i
+abbrev invariant-loop-i : tie.invariant-loop-i
+invariant-loop-i from step end deck mask₀ i₀ mask i = Inv from step end deck mask i
 
-abbrev decreases-loop : tie.decreases-loop
-decreases-loop from step end deck mask₀ i₀ mask i = end - i
+abbrev decreases-loop-i : tie.decreases-loop-i
+decreases-loop-i from step end deck mask₀ i₀ mask i = end - i
 
 off : (from step k : ℕ) → k < from → on from step k ≡ false
 off from step k l = ap (λ (b : Bool). b && eqb ((k - from) % step) 0) (lt-leb from k l)
@@ -54,63 +54,63 @@ stop d from step end i h r =
     e : i ≡ end + (i - end)
     e = omega arith
 
-loop-holds : tie.Need-loop-init invariant-loop decreases-loop
-loop-holds c =
+loop-i-init : tie.Need-loop-i-init invariant-loop-i decreases-loop-i
+loop-i-init c =
     let a = c.args in
     record {
       past = omega arith;
       place = ap (λ (n : ℕ). n % a.step) (sub_self a.from) ∙ zero-mod a.step;
       low = omega arith;
-      seen = start a.t1 a.from a.step;
+      seen = start a.deck a.from a.step;
       rest = λ k h l. off a.from a.step k l;
     }
 
-array-read-card-mask : tie.Need-array-read-card-mask invariant-loop decreases-loop
-array-read-card-mask c = search rules
+bounds-deck-i : tie.Need-bounds-deck-i invariant-loop-i decreases-loop-i
+bounds-deck-i c = search rules
 
-cast-card-mask : tie.Need-overflow-cast-card-mask invariant-loop decreases-loop
-cast-card-mask c = search rules
+overflow_cast-deck : tie.Need-overflow_cast-deck invariant-loop-i decreases-loop-i
+overflow_cast-deck c = search rules
 
-card-mask-requires : tie.Need-card-mask-requires invariant-loop decreases-loop
-card-mask-requires c κs = omega (arith, c.before.before.requires.4 c.before.loop.i c.loop-test.true)
+card_mask-mask-requires : tie.Need-card_mask-mask-requires invariant-loop-i decreases-loop-i
+card_mask-mask-requires c κs = omega (arith, c.requires.4 c.loop-i.i c.loop-i-test.true)
 
-add-i : tie.Need-overflow-add-i invariant-loop decreases-loop
-add-i c = search rules
+overflow_add-i : tie.Need-overflow_add-i invariant-loop-i decreases-loop-i
+overflow_add-i c = search rules
 
-loop-less : tie.Need-loop-smaller invariant-loop decreases-loop
-loop-less c = search rules
+loop-i-smaller : tie.Need-loop-i-smaller invariant-loop-i decreases-loop-i
+loop-i-smaller c = search rules
 
-loop-again : tie.Need-loop-preserved invariant-loop decreases-loop
-loop-again c =
-    let l = c.before.before.loop in
-    let a = c.before.before.before.args in
-    let pre = c.before.before.before.requires in
+loop-i-preserved : tie.Need-loop-i-preserved invariant-loop-i decreases-loop-i
+loop-i-preserved c =
+    let l = c.loop-i in
+    let a = c.args in
+    let pre = c.requires in
     record {
       past = omega (arith, l.invariant.past);
       place = next a.from a.step l.i l.invariant.past l.invariant.place;
-      low = omega (arith, pre.1, pre.3, c.before.loop-test.true);
-      seen = ap₂ bit_or l.invariant.seen c.card-mask.ensures ∙ turn a.t1 a.from a.step l.i pre.0 l.invariant.past l.invariant.place (pre.4 l.i c.before.loop-test.true);
-      rest = λ k h m. between a.from a.step l.i k l.invariant.past l.invariant.place (omega (arith, c.before.loop-test.true)) m;
+      low = omega (arith, pre.1, pre.3, c.loop-i-test.true);
+      seen = ap₂ bit_or l.invariant.seen c.card_mask-mask.ensures ∙ turn a.deck a.from a.step l.i pre.0 l.invariant.past l.invariant.place (pre.4 l.i c.loop-i-test.true);
+      rest = λ k h m. between a.from a.step l.i k l.invariant.past l.invariant.place (omega (arith, c.loop-i-test.true)) m;
     }
 
-returns : tie.Need-returns invariant-loop decreases-loop
+returns : tie.Need-returns invariant-loop-i decreases-loop-i
 unfolding find
 returns c =
-    let l = c.before.loop in
-    let a = c.before.before.args in
-    l.invariant.seen ∙ stop a.t1 a.from a.step a.end l.i c.loop-test.false l.invariant.rest
+    let l = c.loop-i in
+    let a = c.args in
+    l.invariant.seen ∙ stop a.deck a.from a.step a.end l.i c.loop-i-test.false l.invariant.rest
 
-pub walk-spec : {M : Type 1} → statement M
-walk-spec =
+pub walk_spec : {M : Type 1} → statement M
+walk_spec =
     tie.close
     (tie.spec
-    invariant-loop
-    decreases-loop
-    loop-holds
-    array-read-card-mask
-    cast-card-mask
-    card-mask-requires
-    add-i
-    loop-less
-    loop-again
+    invariant-loop-i
+    decreases-loop-i
+    loop-i-init
+    bounds-deck-i
+    overflow_cast-deck
+    card_mask-mask-requires
+    overflow_add-i
+    loop-i-smaller
+    loop-i-preserved
     returns)

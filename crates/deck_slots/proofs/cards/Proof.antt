@@ -12,20 +12,26 @@ use borrow.Author.Rules.{rules}
 use Rattle.deck_slots.proofs.cards.Statement.{statement}
 use Rattle.deck_slots.proofs.cards.Tie as tie
 
-slice-aggregate-copy : tie.Need-slice-aggregate-copy
-slice-aggregate-copy c = search rules
+slice_bounds-copy-end : tie.Need-slice_bounds-copy-end
+slice_bounds-copy-end c = search rules
 
-slice-aggregate-copy-2 : tie.Need-slice-aggregate-copy-2
-slice-aggregate-copy-2 c = search rules
+slice_bounds-copy-end-2 : tie.Need-slice_bounds-copy-end-2
+slice_bounds-copy-end-2 c = search rules
 
 copy-requires : tie.Need-copy-requires
 copy-requires c κs = search rules
 
 returns : tie.Need-returns
 returns c =
-    let a = c.before.before.before.before.args in
+    let a = c.args in
     let bare : ◌≡◌ {A = List ℕ} (slots []) _ = padded [] 0 refl (omega arith) in
-    c.before.copy.ensures ∙ ap (λ (s : List ℕ). paste s 0 (drop 0 a.t1) a.left) (sym bare) ∙ copied [] a.t1 0 0 a.left refl (omega arith) (omega arith)
+    c.copy.ensures ∙ ap (λ (s : List ℕ). paste s 0 (drop 0 a.deck) a.left) (sym bare) ∙ copied [] a.deck 0 0 a.left refl (omega arith) (omega arith)
 
-pub cards-spec : {M : Type 1} → statement M
-cards-spec = tie.close (tie.spec slice-aggregate-copy slice-aggregate-copy-2 copy-requires returns)
+pub cards_spec : {M : Type 1} → statement M
+cards_spec =
+    tie.close
+    (tie.spec
+    slice_bounds-copy-end
+    slice_bounds-copy-end-2
+    copy-requires
+    returns)

@@ -9,53 +9,53 @@ use borrow.Author.Rules.{rules}
 use Rattle.deck_slots.proofs.copy.Statement.{statement}
 use Rattle.deck_slots.proofs.copy.Tie as tie
 
-add-copy : tie.Need-overflow-add-copy
-add-copy c = search rules
+overflow_add-to : tie.Need-overflow_add-to
+overflow_add-to c = search rules
 
-sub-copy : tie.Need-overflow-sub-copy
-sub-copy c = search rules
+slice_bounds-copy_from_slice-count : tie.Need-slice_bounds-copy_from_slice-count
+slice_bounds-copy_from_slice-count c = search rules
 
-part-copy-start : tie.Need-slice-bounds-copy-start
-part-copy-start c = search rules
+slice_bounds-copy_from_slice-start : tie.Need-slice_bounds-copy_from_slice-start
+slice_bounds-copy_from_slice-start c = search rules
 
-part-copy-end : tie.Need-slice-bounds-copy-end
-part-copy-end c = search rules
+slice_bounds-copy_from_slice-end : tie.Need-slice_bounds-copy_from_slice-end
+slice_bounds-copy_from_slice-end c = search rules
 
-add-copy-2 : tie.Need-overflow-add-copy-2
-add-copy-2 c = search rules
+overflow_add-from : tie.Need-overflow_add-from
+overflow_add-from c = search rules
 
-sub-copy-2 : tie.Need-overflow-sub-copy-2
-sub-copy-2 c = search rules
+slice_bounds-copy_from_slice-count-2 : tie.Need-slice_bounds-copy_from_slice-count-2
+slice_bounds-copy_from_slice-count-2 c = search rules
 
-part-copy-start-2 : tie.Need-slice-bounds-copy-start-2
-part-copy-start-2 c = search rules
+slice_bounds-copy_from_slice-start-2 : tie.Need-slice_bounds-copy_from_slice-start-2
+slice_bounds-copy_from_slice-start-2 c = search rules
 
-part-copy-end-2 : tie.Need-slice-bounds-copy-end-2
-part-copy-end-2 c = search rules
+slice_bounds-copy_from_slice-end-2 : tie.Need-slice_bounds-copy_from_slice-end-2
+slice_bounds-copy_from_slice-end-2 c = search rules
 
-copy-requires : tie.Need-copy-requires
-copy-requires c κs = search rules
+copy_from_slice-requires : tie.Need-copy_from_slice-requires
+copy_from_slice-requires c κs = search rules
 
-same_length : tie.Need-same-length
-same_length c = search rules
+shape_of-out : tie.Need-shape_of-out
+shape_of-out c = search rules
 
 returns : tie.Need-returns
 returns c =
-    let a = c.before.before.before.before.before.before.before.args in
-    ap (put_mid a.to (a.to + a.n - a.to) a.out.now) c.before.before.copy.ensures.1 ∙ pasted a.deck.now a.out.now a.from a.to a.n (omega arith) (omega arith)
+    let a = c.args in
+    ap (put_mid a.to (a.to + a.n - a.to) a.out.now) c.copy.ensures.1 ∙ pasted a.deck.now a.out.now a.from a.to a.n (omega arith) (omega arith)
 
 pub copy_spec : {M : Type 1} → statement M
 copy_spec =
     tie.close
     (tie.spec
-    add-copy
-    sub-copy
-    part-copy-start
-    part-copy-end
-    add-copy-2
-    sub-copy-2
-    part-copy-start-2
-    part-copy-end-2
-    copy-requires
-    same_length
+    overflow_add-to
+    slice_bounds-copy_from_slice-count
+    slice_bounds-copy_from_slice-start
+    slice_bounds-copy_from_slice-end
+    overflow_add-from
+    slice_bounds-copy_from_slice-count-2
+    slice_bounds-copy_from_slice-start-2
+    slice_bounds-copy_from_slice-end-2
+    copy_from_slice-requires
+    shape_of-out
     returns)

@@ -12,41 +12,41 @@ use borrow.Author.Rules.{rules}
 use Rattle.deck_slots.proofs.draw.Statement.{statement}
 use Rattle.deck_slots.proofs.draw.Tie as tie
 
-add-after : tie.Need-overflow-add-after
-add-after c = search rules
+overflow_add-after : tie.Need-overflow_add-after
+overflow_add-after c = search rules
 
-cards-requires : tie.Need-cards-requires
-cards-requires c κs = search rules
+cards-out-requires : tie.Need-cards-out-requires
+cards-out-requires c κs = search rules
 
-slice-aggregate-copy : tie.Need-slice-aggregate-copy
-slice-aggregate-copy c = search rules
+slice_bounds-copy-end : tie.Need-slice_bounds-copy-end
+slice_bounds-copy-end c = search rules
 
-slice-aggregate-copy-2 : tie.Need-slice-aggregate-copy-2
-slice-aggregate-copy-2 c = search rules
+slice_bounds-copy-end-2 : tie.Need-slice_bounds-copy-end-2
+slice_bounds-copy-end-2 c = search rules
 
-sub-copy : tie.Need-overflow-sub-copy
-sub-copy c = search rules
+overflow_sub-left : tie.Need-overflow_sub-left
+overflow_sub-left c = search rules
 
 copy-requires : tie.Need-copy-requires
 copy-requires c κs = search rules
 
 returns : tie.Need-returns
 returns c =
-    let a = c.before.before.before.before.before.args in
+    let a = c.args in
     let after : ℕ = a.place + 1 in
     let n : ℕ = a.left - after in
-    c.before.copy.ensures ∙ ap (λ (s : List ℕ). paste s a.place (drop after a.t1) n) c.before.before.before.before.cards.ensures
-    ∙ copied (take a.place a.t1) a.t1 after a.place n (length-take-le a.place a.t1 (omega arith)) (omega arith) (omega arith)
-    ∙ ap (λ (r : List ℕ). slots (take a.place a.t1 ++ r)) (behind a.t1 after a.left (omega arith) (omega arith))
+    c.copy.ensures ∙ ap (λ (s : List ℕ). paste s a.place (drop after a.deck) n) c.cards-out.ensures
+    ∙ copied (take a.place a.deck) a.deck after a.place n (length-take-le a.place a.deck (omega arith)) (omega arith) (omega arith)
+    ∙ ap (λ (r : List ℕ). slots (take a.place a.deck ++ r)) (behind a.deck after a.left (omega arith) (omega arith))
 
-pub draw-spec : {M : Type 1} → statement M
-draw-spec =
+pub draw_spec : {M : Type 1} → statement M
+draw_spec =
     tie.close
     (tie.spec
-    add-after
-    cards-requires
-    slice-aggregate-copy
-    slice-aggregate-copy-2
-    sub-copy
+    overflow_add-after
+    cards-out-requires
+    slice_bounds-copy-end
+    slice_bounds-copy-end-2
+    overflow_sub-left
     copy-requires
     returns)

@@ -21,52 +21,52 @@ record Inv (field : ℕ) (counts : List ℕ) (rest i : ℕ) : Type 0 where
   over : rest ≡ field / radices i
   digits : (k : ℕ) → k < i → get_or counts k 0 ≡ field_count field k
 
-abbrev invariant-loop : tie.invariant-loop
-invariant-loop field counts₀ rest₀ i₀ counts rest i = Inv field counts rest i
+abbrev invariant-loop-i : tie.invariant-loop-i
+invariant-loop-i field counts₀ rest₀ i₀ counts rest i = Inv field counts rest i
 
-abbrev decreases-loop : tie.decreases-loop
-decreases-loop field counts₀ rest₀ i₀ counts rest i = 7 - i
+abbrev decreases-loop-i : tie.decreases-loop-i
+decreases-loop-i field counts₀ rest₀ i₀ counts rest i = 7 - i
 
-returns : tie.Need-returns invariant-loop decreases-loop
-returns c =
-    let e = le-ltb c.before.args.field 40320 (omega (arith, c.if1.true)) in
+returns-then-field-ge-N_CODES : tie.Need-returns-then-field-ge-N_CODES invariant-loop-i decreases-loop-i
+returns-then-field-ge-N_CODES c =
+    let e = le-ltb c.args.field 40320 (omega (arith, c.if-field-ge-N_CODES.true)) in
     (sym e, rw e refl)
 
-loop-holds : tie.Need-loop-init invariant-loop decreases-loop
-loop-holds c = record { seen = omega arith; long = refl; over = rest_none c.before.args.field; digits = λ k l. absurd (not-suc-le-zero l) }
+loop-i-init : tie.Need-loop-i-init invariant-loop-i decreases-loop-i
+loop-i-init c = record { seen = omega arith; long = refl; over = rest_none c.args.field; digits = λ k l. absurd (not-suc-le-zero l) }
 
-cast-n-options : tie.Need-overflow-cast-n-options invariant-loop decreases-loop
-cast-n-options c = search rules
+overflow_cast-n_options : tie.Need-overflow_cast-n_options invariant-loop-i decreases-loop-i
+overflow_cast-n_options c = search rules
 
-add-n-options : tie.Need-overflow-add-n-options invariant-loop decreases-loop
-add-n-options c = search rules
+overflow_add-n_options : tie.Need-overflow_add-n_options invariant-loop-i decreases-loop-i
+overflow_add-n_options c = search rules
 
-rem-counts : tie.Need-nonzero-rem-counts invariant-loop decreases-loop
-rem-counts c = search rules
+nonzero_rem-counts : tie.Need-nonzero_rem-counts invariant-loop-i decreases-loop-i
+nonzero_rem-counts c = search rules
 
 -- a remainder by a byte is a byte: so the bound says nothing of the radix
 rest-byte : (x m : ℕ) → 0 < m → m ≤ 2 ^ 8 → x % m < 2 ^ 8
 rest-byte x m z l = lt_of_lt_of_le (mod-lt x z) l
 
-cast-counts : tie.Need-overflow-cast-counts invariant-loop decreases-loop
-cast-counts c = record { fits = rest-byte _ _ (omega arith) (omega arith) }
+overflow_cast-counts : tie.Need-overflow_cast-counts invariant-loop-i decreases-loop-i
+overflow_cast-counts c = record { fits = rest-byte _ _ (omega arith) (omega arith) }
 
-array-write-counts : tie.Need-array-write-counts invariant-loop decreases-loop
-array-write-counts c = search rules
+bounds-counts-i : tie.Need-bounds-counts-i invariant-loop-i decreases-loop-i
+bounds-counts-i c = search rules
 
-div-rest : tie.Need-nonzero-div-rest invariant-loop decreases-loop
-div-rest c = search rules
+nonzero_div-rest : tie.Need-nonzero_div-rest invariant-loop-i decreases-loop-i
+nonzero_div-rest c = search rules
 
-add-i : tie.Need-overflow-add-i invariant-loop decreases-loop
-add-i c = search rules
+overflow_add-i : tie.Need-overflow_add-i invariant-loop-i decreases-loop-i
+overflow_add-i c = search rules
 
-loop-less : tie.Need-loop-smaller invariant-loop decreases-loop
-loop-less c = search rules
+loop-i-smaller : tie.Need-loop-i-smaller invariant-loop-i decreases-loop-i
+loop-i-smaller c = search rules
 
-loop-again : tie.Need-loop-preserved invariant-loop decreases-loop
-loop-again c =
-    let l = c.before.loop in
-    let x = c.before.before.before.args.field in
+loop-i-preserved : tie.Need-loop-i-preserved invariant-loop-i decreases-loop-i
+loop-i-preserved c =
+    let l = c.loop-i in
+    let x = c.args.field in
     let v : l.rest % (l.i + 2) ≡ field_count x l.i = ap (λ (r : ℕ). r % (l.i + 2)) l.invariant.over in
     record {
       seen = omega arith;
@@ -77,29 +77,29 @@ loop-again c =
           (get_or-set_same l.counts l.i _ 0 (omega (arith, l.invariant.long)) ∙ v);
     }
 
-returns-2 : tie.Need-returns-2 invariant-loop decreases-loop
-returns-2 c =
-    let l = c.before.loop in
-    let x = c.before.before.before.args.field in
-    let e = lt-ltb x 40320 (omega (arith, c.before.before.if1.false)) in
+returns : tie.Need-returns invariant-loop-i decreases-loop-i
+returns c =
+    let l = c.loop-i in
+    let x = c.args.field in
+    let e = lt-ltb x 40320 (omega (arith, c.if-field-ge-N_CODES.false)) in
     let z : l.i ≡ 7 = omega arith in
     (sym e, rw e (sym (table_of 7 l.counts l.invariant.long) ∙ table_ext 7 _ (λ i. field_count x i) (rw z at l.invariant.digits)))
 
-pub decode-spec : {M : Type 1} → statement M
-decode-spec =
+pub decode_spec : {M : Type 1} → statement M
+decode_spec =
     tie.close
     (tie.spec
-    invariant-loop
-    decreases-loop
-    returns
-    loop-holds
-    cast-n-options
-    add-n-options
-    rem-counts
-    cast-counts
-    array-write-counts
-    div-rest
-    add-i
-    loop-less
-    loop-again
-    returns-2)
+    invariant-loop-i
+    decreases-loop-i
+    returns-then-field-ge-N_CODES
+    loop-i-init
+    overflow_cast-n_options
+    overflow_add-n_options
+    nonzero_rem-counts
+    overflow_cast-counts
+    bounds-counts-i
+    nonzero_div-rest
+    overflow_add-i
+    loop-i-smaller
+    loop-i-preserved
+    returns)

@@ -10,73 +10,73 @@ use Rattle.rules.proofs.PileField.{field_from, field_none, field_more, field_who
 use Rattle.hidden_counts.proofs.encode.Statement.{statement}
 use Rattle.hidden_counts.proofs.encode.Tie as tie
 
-abbrev invariant-loop : tie.invariant-loop
-invariant-loop counts res₀ i₀ res i = (i ≤ 7) × (res ≡ field_from (λ j. get_or counts j 0) (7 - i) i)
+abbrev invariant-loop-i : tie.invariant-loop-i
+invariant-loop-i counts res₀ i₀ res i = (i ≤ 7) × (res ≡ field_from (λ j. get_or counts j 0) (7 - i) i)
 
-abbrev decreases-loop : tie.decreases-loop
-decreases-loop counts res₀ i₀ res i = i
+abbrev decreases-loop-i : tie.decreases-loop-i
+decreases-loop-i counts res₀ i₀ res i = i
 
 -- the pile that a turn takes in, its count and the field with it
-fits : (c : tie.In-loop invariant-loop decreases-loop) → get_or c.before.before.args.counts.now (c.before.loop.i - 1) 0 ≤ 7
-fits c = omega (arith, c.before.before.requires (c.before.loop.i - 1) (omega arith))
+fits : (c : tie.In-loop-i invariant-loop-i decreases-loop-i) → get_or c.args.counts.now (c.loop-i.i - 1) 0 ≤ 7
+fits c = omega (arith, c.requires (c.loop-i.i - 1) (omega arith))
 
-after : (c : tie.In-loop invariant-loop decreases-loop) →
-    c.before.loop.res * (c.before.loop.i - 1 + 2) + get_or c.before.before.args.counts.now (c.before.loop.i - 1) 0 ≡ field_from (λ j. get_or c.before.before.args.counts.now j 0) (7 - (c.before.loop.i - 1)) (c.before.loop.i - 1)
-after c = field_more (λ j. get_or c.before.before.args.counts.now j 0) c.before.loop.i c.before.loop.res (omega arith) c.before.loop.invariant.0 c.before.loop.invariant.1
+after : (c : tie.In-loop-i invariant-loop-i decreases-loop-i) →
+    c.loop-i.res * (c.loop-i.i - 1 + 2) + get_or c.args.counts.now (c.loop-i.i - 1) 0 ≡ field_from (λ j. get_or c.args.counts.now j 0) (7 - (c.loop-i.i - 1)) (c.loop-i.i - 1)
+after c = field_more (λ j. get_or c.args.counts.now j 0) c.loop-i.i c.loop-i.res (omega arith) c.loop-i.invariant.0 c.loop-i.invariant.1
 
-after-low : (c : tie.In-loop invariant-loop decreases-loop) → c.before.loop.res * (c.before.loop.i - 1 + 2) + get_or c.before.before.args.counts.now (c.before.loop.i - 1) 0 < 40320
-after-low c = rw (after c) (from_low (λ j. get_or c.before.before.args.counts.now j 0) c.before.before.requires (c.before.loop.i - 1) (omega arith))
+after-low : (c : tie.In-loop-i invariant-loop-i decreases-loop-i) → c.loop-i.res * (c.loop-i.i - 1 + 2) + get_or c.args.counts.now (c.loop-i.i - 1) 0 < 40320
+after-low c = rw (after c) (from_low (λ j. get_or c.args.counts.now j 0) c.requires (c.loop-i.i - 1) (omega arith))
 
-loop-holds : tie.Need-loop-init invariant-loop decreases-loop
-loop-holds c = (omega arith, field_none _)
+loop-i-init : tie.Need-loop-i-init invariant-loop-i decreases-loop-i
+loop-i-init c = (omega arith, field_none _)
 
-sub-i : tie.Need-overflow-sub-i invariant-loop decreases-loop
-sub-i c = search rules
+overflow_sub-i : tie.Need-overflow_sub-i invariant-loop-i decreases-loop-i
+overflow_sub-i c = search rules
 
-cast-res : tie.Need-overflow-cast-res invariant-loop decreases-loop
-cast-res c = search rules
+overflow_cast-res : tie.Need-overflow_cast-res invariant-loop-i decreases-loop-i
+overflow_cast-res c = search rules
 
-add-res : tie.Need-overflow-add-res invariant-loop decreases-loop
-add-res c = search rules
+overflow_add-res : tie.Need-overflow_add-res invariant-loop-i decreases-loop-i
+overflow_add-res c = search rules
 
-mul-res : tie.Need-overflow-mul-res invariant-loop decreases-loop
-mul-res c = omega (arith, after-low c)
+overflow_mul-res : tie.Need-overflow_mul-res invariant-loop-i decreases-loop-i
+overflow_mul-res c = omega (arith, after-low c)
 
-element-copy-out-res : tie.Need-element-copy-out-res invariant-loop decreases-loop
-element-copy-out-res c = search rules
+bounds-counts-i : tie.Need-bounds-counts-i invariant-loop-i decreases-loop-i
+bounds-counts-i c = search rules
 
-cast-res-2 : tie.Need-overflow-cast-res-2 invariant-loop decreases-loop
-cast-res-2 c = omega (arith, fits c.before)
+overflow_cast-res-in-loop-i : tie.Need-overflow_cast-res-in-loop-i invariant-loop-i decreases-loop-i
+overflow_cast-res-in-loop-i c = omega (arith, fits c.before.before)
 
-add-res-2 : tie.Need-overflow-add-res-2 invariant-loop decreases-loop
-add-res-2 c = omega (arith, after-low c.before)
+overflow_add-res-in-loop-i : tie.Need-overflow_add-res-in-loop-i invariant-loop-i decreases-loop-i
+overflow_add-res-in-loop-i c = omega (arith, after-low c.before.before)
 
-loop-less : tie.Need-loop-smaller invariant-loop decreases-loop
-loop-less c = search rules
+loop-i-smaller : tie.Need-loop-i-smaller invariant-loop-i decreases-loop-i
+loop-i-smaller c = search rules
 
-loop-again : tie.Need-loop-preserved invariant-loop decreases-loop
-loop-again c = (omega arith, after c.before)
+loop-i-preserved : tie.Need-loop-i-preserved invariant-loop-i decreases-loop-i
+loop-i-preserved c = (omega arith, after c.before.before)
 
-returns : tie.Need-returns invariant-loop decreases-loop
+returns : tie.Need-returns invariant-loop-i decreases-loop-i
 unfolding counts_field
 returns c =
-    let e : c.before.loop.i ≡ 0 = omega arith in
-    rw e at c.before.loop.invariant.1 ∙ field_whole (λ j. get_or c.before.before.args.counts.now j 0)
+    let e : c.loop-i.i ≡ 0 = omega arith in
+    rw e at c.loop-i.invariant.1 ∙ field_whole (λ j. get_or c.args.counts.now j 0)
 
-pub encode-spec : {M : Type 1} → statement M
-encode-spec =
+pub encode_spec : {M : Type 1} → statement M
+encode_spec =
     tie.close
     (tie.spec
-    invariant-loop
-    decreases-loop
-    loop-holds
-    sub-i
-    cast-res
-    add-res
-    mul-res
-    element-copy-out-res
-    cast-res-2
-    add-res-2
-    loop-less
-    loop-again
+    invariant-loop-i
+    decreases-loop-i
+    loop-i-init
+    overflow_sub-i
+    overflow_cast-res
+    overflow_add-res
+    overflow_mul-res
+    bounds-counts-i
+    overflow_cast-res-in-loop-i
+    overflow_add-res-in-loop-i
+    loop-i-smaller
+    loop-i-preserved
     returns)

@@ -14,52 +14,52 @@ use Rattle.rules.specs.Hidden.{all_up}
 use Rattle.hidden_counts.proofs.is_all_up.Statement.{statement}
 use Rattle.hidden_counts.proofs.is_all_up.Tie as tie
 
-abbrev invariant-loop : tie.invariant-loop
-invariant-loop counts i₀ i = (i ≤ 7) × (all_of i (λ k. leb (get_or counts k 0) 1) ≡ true)
+abbrev invariant-loop-i : tie.invariant-loop-i
+invariant-loop-i counts i₀ i = (i ≤ 7) × (all_of i (λ k. leb (get_or counts k 0) 1) ≡ true)
 
-abbrev decreases-loop : tie.decreases-loop
-decreases-loop counts i₀ i = 7 - i
+abbrev decreases-loop-i : tie.decreases-loop-i
+decreases-loop-i counts i₀ i = 7 - i
 
-loop-holds : tie.Need-loop-init invariant-loop decreases-loop
+loop-i-init : tie.Need-loop-i-init invariant-loop-i decreases-loop-i
 unfolding all_of
-loop-holds c = (omega arith, refl)
+loop-i-init c = (omega arith, refl)
 
-element-copy-out-if1 : tie.Need-element-copy-out-if1 invariant-loop decreases-loop
-element-copy-out-if1 c = search rules
+bounds-counts-i : tie.Need-bounds-counts-i invariant-loop-i decreases-loop-i
+bounds-counts-i c = search rules
 
-returns : tie.Need-returns invariant-loop decreases-loop
+returns-then-counts-i-gt1 : tie.Need-returns-then-counts-i-gt1 invariant-loop-i decreases-loop-i
+unfolding all_up
+returns-then-counts-i-gt1 c =
+    let n = get_or c.args.counts.now c.loop-i.i 0 in
+    sym (no_all 7 _ c.loop-i.i c.loop-i-test.true (lt-leb n 1 c.if-counts-i-gt1.true))
+
+overflow_add-i : tie.Need-overflow_add-i invariant-loop-i decreases-loop-i
+overflow_add-i c = search rules
+
+loop-i-smaller : tie.Need-loop-i-smaller invariant-loop-i decreases-loop-i
+loop-i-smaller c = search rules
+
+loop-i-preserved : tie.Need-loop-i-preserved invariant-loop-i decreases-loop-i
+loop-i-preserved c =
+    let n = get_or c.args.counts.now c.loop-i.i 0 in
+    (omega arith, all_more c.loop-i.i _ c.loop-i.invariant.1 (le-leb n 1 c.if-counts-i-gt1.false))
+
+returns : tie.Need-returns invariant-loop-i decreases-loop-i
 unfolding all_up
 returns c =
-    let n = get_or c.before.before.before.before.args.counts.now c.before.before.before.loop.i 0 in
-    sym (no_all 7 _ c.before.before.before.loop.i c.before.before.loop-test.true (lt-leb n 1 c.if1.true))
+    let e : c.loop-i.i ≡ 7 = omega arith in
+    sym (rw e at c.loop-i.invariant.1)
 
-add-i : tie.Need-overflow-add-i invariant-loop decreases-loop
-add-i c = search rules
-
-loop-less : tie.Need-loop-smaller invariant-loop decreases-loop
-loop-less c = search rules
-
-loop-again : tie.Need-loop-preserved invariant-loop decreases-loop
-loop-again c =
-    let n = get_or c.before.before.before.before.args.counts.now c.before.before.before.loop.i 0 in
-    (omega arith, all_more c.before.before.before.loop.i _ c.before.before.before.loop.invariant.1 (le-leb n 1 c.if1.false))
-
-returns-2 : tie.Need-returns-2 invariant-loop decreases-loop
-unfolding all_up
-returns-2 c =
-    let e : c.before.loop.i ≡ 7 = omega arith in
-    sym (rw e at c.before.loop.invariant.1)
-
-pub is-all-up-spec : {M : Type 1} → statement M
-is-all-up-spec =
+pub is_all_up_spec : {M : Type 1} → statement M
+is_all_up_spec =
     tie.close
     (tie.spec
-    invariant-loop
-    decreases-loop
-    loop-holds
-    element-copy-out-if1
-    returns
-    add-i
-    loop-less
-    loop-again
-    returns-2)
+    invariant-loop-i
+    decreases-loop-i
+    loop-i-init
+    bounds-counts-i
+    returns-then-counts-i-gt1
+    overflow_add-i
+    loop-i-smaller
+    loop-i-preserved
+    returns)

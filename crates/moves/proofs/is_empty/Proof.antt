@@ -10,4 +10,7 @@ unfolding no_moves
 returns c = simp or_none
 
 pub is_empty_spec : {M : Type 1} → statement M
-is_empty_spec = tie.close (tie.spec returns)
+is_empty_spec =
+    tie.close
+    (tie.spec
+    returns)

@@ -19,26 +19,26 @@ count-requires c κs = search rules
 count-requires-2 : tie.Need-count-requires-2
 count-requires-2 c κs = search rules
 
-add-result : tie.Need-overflow-add-result
-add-result c = let m = c.before.before.args.m in omega (arith, few m.reveal, few m.pile_stack, few m.deck_pile, few m.deck_stack, few m.stack_pile)
+overflow_add-result : tie.Need-overflow_add-result
+overflow_add-result c = let m = c.args.m in omega (arith, few m.reveal, few m.pile_stack, few m.deck_pile, few m.deck_stack, few m.stack_pile)
 
 count-requires-3 : tie.Need-count-requires-3
 count-requires-3 c κs = search rules
 
-add-result-2 : tie.Need-overflow-add-result-2
-add-result-2 c = let m = c.before.before.before.args.m in omega (arith, few m.reveal, few m.pile_stack, few m.deck_pile, few m.deck_stack, few m.stack_pile)
+overflow_add-result-2 : tie.Need-overflow_add-result-2
+overflow_add-result-2 c = let m = c.args.m in omega (arith, few m.reveal, few m.pile_stack, few m.deck_pile, few m.deck_stack, few m.stack_pile)
 
 count-requires-4 : tie.Need-count-requires-4
 count-requires-4 c κs = search rules
 
-add-result-3 : tie.Need-overflow-add-result-3
-add-result-3 c = let m = c.before.before.before.before.args.m in omega (arith, few m.reveal, few m.pile_stack, few m.deck_pile, few m.deck_stack, few m.stack_pile)
+overflow_add-result-3 : tie.Need-overflow_add-result-3
+overflow_add-result-3 c = let m = c.args.m in omega (arith, few m.reveal, few m.pile_stack, few m.deck_pile, few m.deck_stack, few m.stack_pile)
 
 count-requires-5 : tie.Need-count-requires-5
 count-requires-5 c κs = search rules
 
-add-result-4 : tie.Need-overflow-add-result-4
-add-result-4 c = let m = c.before.before.before.before.before.args.m in omega (arith, few m.reveal, few m.pile_stack, few m.deck_pile, few m.deck_stack, few m.stack_pile)
+overflow_add-result-4 : tie.Need-overflow_add-result-4
+overflow_add-result-4 c = let m = c.args.m in omega (arith, few m.reveal, few m.pile_stack, few m.deck_pile, few m.deck_stack, few m.stack_pile)
 
 returns : tie.Need-returns
 unfolding move_count size
@@ -50,11 +50,11 @@ len_spec =
     (tie.spec
     count-requires
     count-requires-2
-    add-result
+    overflow_add-result
     count-requires-3
-    add-result-2
+    overflow_add-result-2
     count-requires-4
-    add-result-3
+    overflow_add-result-3
     count-requires-5
-    add-result-4
+    overflow_add-result-4
     returns)

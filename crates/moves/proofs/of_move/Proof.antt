@@ -20,28 +20,35 @@ reveal_is (suc zero) card l = absurd (omega arith)
 reveal_is (suc (suc zero)) card l = absurd (omega arith)
 reveal_is (suc (suc (suc zero))) card l = absurd (omega arith)
 
-card-mask-requires : tie.Need-card-mask-requires
-card-mask-requires c κs = search rules
+card_mask-one-requires : tie.Need-card_mask-one-requires
+card_mask-one-requires c κs = search rules
 
-returns : tie.Need-returns
+returns-then-kind-eq-DECK_STACK : tie.Need-returns-then-kind-eq-DECK_STACK
 unfolding one_move
-returns c = rw (c.before.card-mask.ensures, c.if1.true)
+returns-then-kind-eq-DECK_STACK c = rw (c.card_mask-one.ensures, c.if-kind-eq-DECK_STACK.true)
 
-returns-2 : tie.Need-returns-2
+returns-then-kind-eq-PILE_STACK : tie.Need-returns-then-kind-eq-PILE_STACK
 unfolding one_move
-returns-2 c = rw (c.before.before.card-mask.ensures, c.if2.true)
+returns-then-kind-eq-PILE_STACK c = rw (c.card_mask-one.ensures, c.if-kind-eq-PILE_STACK.true)
 
-returns-3 : tie.Need-returns-3
+returns-then-kind-eq-DECK_PILE : tie.Need-returns-then-kind-eq-DECK_PILE
 unfolding one_move
-returns-3 c = rw (c.before.before.before.card-mask.ensures, c.if3.true)
+returns-then-kind-eq-DECK_PILE c = rw (c.card_mask-one.ensures, c.if-kind-eq-DECK_PILE.true)
 
-returns-4 : tie.Need-returns-4
+returns-then-kind-eq-STACK_PILE : tie.Need-returns-then-kind-eq-STACK_PILE
 unfolding one_move
-returns-4 c = rw (c.before.before.before.before.card-mask.ensures, c.if4.true)
+returns-then-kind-eq-STACK_PILE c = rw (c.card_mask-one.ensures, c.if-kind-eq-STACK_PILE.true)
 
-returns-5 : tie.Need-returns-5
-returns-5 c = rw c.before.before.before.before.card-mask.ensures (reveal_is c.before.before.before.before.before.args.kind c.before.before.before.before.before.args.card (omega arith))
+returns-else-kind-eq-STACK_PILE : tie.Need-returns-else-kind-eq-STACK_PILE
+returns-else-kind-eq-STACK_PILE c = rw c.card_mask-one.ensures (reveal_is c.args.kind c.args.card (omega arith))
 
-pub of-move-spec : {M : Type 1} → statement M
-of-move-spec =
-    tie.close (tie.spec card-mask-requires returns returns-2 returns-3 returns-4 returns-5)
+pub of_move_spec : {M : Type 1} → statement M
+of_move_spec =
+    tie.close
+    (tie.spec
+    card_mask-one-requires
+    returns-then-kind-eq-DECK_STACK
+    returns-then-kind-eq-PILE_STACK
+    returns-then-kind-eq-DECK_PILE
+    returns-then-kind-eq-STACK_PILE
+    returns-else-kind-eq-STACK_PILE)

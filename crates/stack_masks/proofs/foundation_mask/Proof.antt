@@ -10,64 +10,64 @@ use Rattle.stack_masks.proofs.Stacked.{stacked_to, stacked_none, stacked_step, s
 use Rattle.stack_masks.proofs.foundation_mask.Statement.{statement}
 use Rattle.stack_masks.proofs.foundation_mask.Tie as tie
 
-abbrev invariant-loop : tie.invariant-loop
-invariant-loop heights mask₀ s₀ mask s = (s ≤ 4) × (mask ≡ stacked_to heights s)
+abbrev invariant-loop-s : tie.invariant-loop-s
+invariant-loop-s heights mask₀ s₀ mask s = (s ≤ 4) × (mask ≡ stacked_to heights s)
 
-abbrev decreases-loop : tie.decreases-loop
-decreases-loop heights mask₀ s₀ mask s = 4 - s
+abbrev decreases-loop-s : tie.decreases-loop-s
+decreases-loop-s heights mask₀ s₀ mask s = 4 - s
 
-loop-holds : tie.Need-loop-init invariant-loop decreases-loop
-loop-holds c = (omega arith, stacked_none _)
+loop-s-init : tie.Need-loop-s-init invariant-loop-s decreases-loop-s
+loop-s-init c = (omega arith, stacked_none _)
 
-suit-mask-requires : tie.Need-suit-mask-requires invariant-loop decreases-loop
-suit-mask-requires c κs = search rules
+suit_mask-requires : tie.Need-suit_mask-requires invariant-loop-s decreases-loop-s
+suit_mask-requires c κs = search rules
 
-element-copy-out-mask : tie.Need-element-copy-out-mask invariant-loop decreases-loop
-element-copy-out-mask c = search rules
+bounds-heights-s : tie.Need-bounds-heights-s invariant-loop-s decreases-loop-s
+bounds-heights-s c = search rules
 
-mul-mask : tie.Need-overflow-mul-mask invariant-loop decreases-loop
-mul-mask c = omega (arith, c.before.before.before.before.requires c.before.before.before.loop.s (omega arith))
+overflow_mul-mask : tie.Need-overflow_mul-mask invariant-loop-s decreases-loop-s
+overflow_mul-mask c = omega (arith, c.requires c.loop-s.s (omega arith))
 
-cast-mask : tie.Need-overflow-cast-mask invariant-loop decreases-loop
-cast-mask c = omega (arith, c.before.before.before.before.requires c.before.before.before.loop.s (omega arith))
+overflow_cast-mask : tie.Need-overflow_cast-mask invariant-loop-s decreases-loop-s
+overflow_cast-mask c = omega (arith, c.requires c.loop-s.s (omega arith))
 
-shl-mask : tie.Need-overflow-shl-mask invariant-loop decreases-loop
-shl-mask c = omega (arith, c.before.before.before.before.requires c.before.before.before.loop.s (omega arith))
+overflow_shl-mask : tie.Need-overflow_shl-mask invariant-loop-s decreases-loop-s
+overflow_shl-mask c = omega (arith, c.requires c.loop-s.s (omega arith))
 
-sub-mask : tie.Need-overflow-sub-mask invariant-loop decreases-loop
-sub-mask c = let b = c.before.before.before in
-    let x = get_or b.before.args.heights.now b.loop.s 0 in
-    omega (arith, shifted_exact x (b.before.requires b.loop.s (omega arith)), pow_pos (4 * x))
+overflow_sub-mask : tie.Need-overflow_sub-mask invariant-loop-s decreases-loop-s
+overflow_sub-mask c = let b = c.before in
+    let x = get_or b.args.heights.now b.loop-s.s 0 in
+    omega (arith, shifted_exact x (b.requires b.loop-s.s (omega arith)), pow_pos (4 * x))
 
-add-s : tie.Need-overflow-add-s invariant-loop decreases-loop
-add-s c = search rules
+overflow_add-s : tie.Need-overflow_add-s invariant-loop-s decreases-loop-s
+overflow_add-s c = search rules
 
-loop-less : tie.Need-loop-smaller invariant-loop decreases-loop
-loop-less c = search rules
+loop-s-smaller : tie.Need-loop-s-smaller invariant-loop-s decreases-loop-s
+loop-s-smaller c = search rules
 
-loop-again : tie.Need-loop-preserved invariant-loop decreases-loop
-loop-again c = let b = c.before.before.before in
-    let h = b.before.args.heights.now in
-    (omega arith, rw b.loop.invariant.1 (stacked_step h b.loop.s (get_or h b.loop.s 0) c.before.suit-mask.result refl (b.before.requires b.loop.s (omega arith)) c.before.suit-mask.ensures))
+loop-s-preserved : tie.Need-loop-s-preserved invariant-loop-s decreases-loop-s
+loop-s-preserved c = let b = c.before in
+    let h = b.args.heights.now in
+    (omega arith, rw b.loop-s.invariant.1 (stacked_step h b.loop-s.s (get_or h b.loop-s.s 0) c.suit_mask.result refl (b.requires b.loop-s.s (omega arith)) c.suit_mask.ensures))
 
-returns : tie.Need-returns invariant-loop decreases-loop
-returns c = let e : c.before.loop.s ≡ 4 = omega arith in
-    c.before.loop.invariant.1 ∙ ap (stacked_to c.before.before.args.heights.now) e ∙ stacked_are c.before.before.args.heights.now
+returns : tie.Need-returns invariant-loop-s decreases-loop-s
+returns c = let e : c.loop-s.s ≡ 4 = omega arith in
+    c.loop-s.invariant.1 ∙ ap (stacked_to c.args.heights.now) e ∙ stacked_are c.args.heights.now
 
-pub foundation-mask-spec : {M : Type 1} → statement M
-foundation-mask-spec =
+pub foundation_mask_spec : {M : Type 1} → statement M
+foundation_mask_spec =
     tie.close
     (tie.spec
-    invariant-loop
-    decreases-loop
-    loop-holds
-    suit-mask-requires
-    element-copy-out-mask
-    mul-mask
-    cast-mask
-    shl-mask
-    sub-mask
-    add-s
-    loop-less
-    loop-again
+    invariant-loop-s
+    decreases-loop-s
+    loop-s-init
+    suit_mask-requires
+    bounds-heights-s
+    overflow_mul-mask
+    overflow_cast-mask
+    overflow_shl-mask
+    overflow_sub-mask
+    overflow_add-s
+    loop-s-smaller
+    loop-s-preserved
     returns)

@@ -7,21 +7,28 @@ use Rattle.rules.specs.Bits.{all_of}
 use Rattle.stack_totals.proofs.all_within.Statement.{statement}
 use Rattle.stack_totals.proofs.all_within.Tie as tie
 
-array-read-a : tie.Need-array-read-a
-array-read-a c = search rules
+bounds-heights-0 : tie.Need-bounds-heights-0
+bounds-heights-0 c = search rules
 
-array-read-b : tie.Need-array-read-b
-array-read-b c = search rules
+bounds-heights-1 : tie.Need-bounds-heights-1
+bounds-heights-1 c = search rules
 
-array-read-c : tie.Need-array-read-c
-array-read-c c = search rules
+bounds-heights-2 : tie.Need-bounds-heights-2
+bounds-heights-2 c = search rules
 
-array-read-d : tie.Need-array-read-d
-array-read-d c = search rules
+bounds-heights-3 : tie.Need-bounds-heights-3
+bounds-heights-3 c = search rules
 
 returns : tie.Need-returns
 unfolding all_of
 returns c = simp (and_assoc, and-true) refl
 
-pub all-within-spec : {M : Type 1} → statement M
-all-within-spec = tie.close (tie.spec array-read-a array-read-b array-read-c array-read-d returns)
+pub all_within_spec : {M : Type 1} → statement M
+all_within_spec =
+    tie.close
+    (tie.spec
+    bounds-heights-0
+    bounds-heights-1
+    bounds-heights-2
+    bounds-heights-3
+    returns)

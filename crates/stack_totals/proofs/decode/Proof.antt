@@ -14,17 +14,17 @@ use Rattle.stack_totals.proofs.decode.Tie as tie
 low-four : (x : ℕ) → bit_and x 15 ≡ x % 16
 low-four x = and_mask x 4
 
-cast-t3 : tie.Need-overflow-cast-t3
-cast-t3 c = rw low-four (omega arith)
+overflow_cast-result : tie.Need-overflow_cast-result
+overflow_cast-result c = rw low-four (omega arith)
 
-cast-t6 : tie.Need-overflow-cast-t6
-cast-t6 c = rw low-four (omega arith)
+overflow_cast-result-2 : tie.Need-overflow_cast-result-2
+overflow_cast-result-2 c = rw low-four (omega arith)
 
-cast-t9 : tie.Need-overflow-cast-t9
-cast-t9 c = rw low-four (omega arith)
+overflow_cast-result-3 : tie.Need-overflow_cast-result-3
+overflow_cast-result-3 c = rw low-four (omega arith)
 
-cast-t12 : tie.Need-overflow-cast-t12
-cast-t12 c = rw low-four (omega arith)
+overflow_cast-result-4 : tie.Need-overflow_cast-result-4
+overflow_cast-result-4 c = rw low-four (omega arith)
 
 four : (x a b c d : ℕ) → a ≡ x % 16 → b ≡ x / 16 % 16 → c ≡ x / 256 % 16 → d ≡ x / 4096 % 16 → a ∷ b ∷ c ∷ d ∷ [] ≡ table 4 (code_height x)
 unfolding table code_height
@@ -34,5 +34,12 @@ returns : tie.Need-returns
 returns c =
     let x = c.args.field in four x _ _ _ _ (low-four x) (low-four (x / 16)) (low-four (x / 256)) (low-four (x / 4096))
 
-pub decode-spec : {M : Type 1} → statement M
-decode-spec = tie.close (tie.spec cast-t3 cast-t6 cast-t9 cast-t12 returns)
+pub decode_spec : {M : Type 1} → statement M
+decode_spec =
+    tie.close
+    (tie.spec
+    overflow_cast-result
+    overflow_cast-result-2
+    overflow_cast-result-3
+    overflow_cast-result-4
+    returns)

@@ -13,5 +13,9 @@ returns : tie.Need-returns
 unfolding field_on
 returns c = omega (arith, c.weighed.ensures)
 
-pub encode-spec : {M : Type 1} → statement M
-encode-spec = tie.close (tie.spec weighed-requires returns)
+pub encode_spec : {M : Type 1} → statement M
+encode_spec =
+    tie.close
+    (tie.spec
+    weighed-requires
+    returns)

@@ -7,12 +7,16 @@ use Rattle.stack_totals.proofs.Within.{just}
 use Rattle.stack_totals.proofs.is_empty.Statement.{statement}
 use Rattle.stack_totals.proofs.is_empty.Tie as tie
 
-all-within-requires : tie.Need-all-within-requires
-all-within-requires c κs = search rules
+all_within-requires : tie.Need-all_within-requires
+all_within-requires c κs = search rules
 
 returns : tie.Need-returns
 unfolding empty_on
-returns c = c.all-within.ensures ∙ just c.before.args.heights 0
+returns c = c.all_within.ensures ∙ just c.args.heights 0
 
 pub is_empty_spec : {M : Type 1} → statement M
-is_empty_spec = tie.close (tie.spec all-within-requires returns)
+is_empty_spec =
+    tie.close
+    (tie.spec
+    all_within-requires
+    returns)

@@ -7,12 +7,16 @@ use Rattle.stack_totals.proofs.Within.{just}
 use Rattle.stack_totals.proofs.is_full.Statement.{statement}
 use Rattle.stack_totals.proofs.is_full.Tie as tie
 
-all-within-requires : tie.Need-all-within-requires
-all-within-requires c κs = search rules
+all_within-requires : tie.Need-all_within-requires
+all_within-requires c κs = search rules
 
 returns : tie.Need-returns
 unfolding full_on
-returns c = c.all-within.ensures ∙ just c.before.args.heights 13
+returns c = c.all_within.ensures ∙ just c.args.heights 13
 
-pub is-full-spec : {M : Type 1} → statement M
-is-full-spec = tie.close (tie.spec all-within-requires returns)
+pub is_full_spec : {M : Type 1} → statement M
+is_full_spec =
+    tie.close
+    (tie.spec
+    all_within-requires
+    returns)

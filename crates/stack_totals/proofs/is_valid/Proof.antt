@@ -7,12 +7,16 @@ use Rattle.stack_totals.proofs.Within.{from_zero}
 use Rattle.stack_totals.proofs.is_valid.Statement.{statement}
 use Rattle.stack_totals.proofs.is_valid.Tie as tie
 
-all-within-requires : tie.Need-all-within-requires
-all-within-requires c κs = search rules
+all_within-requires : tie.Need-all_within-requires
+all_within-requires c κs = search rules
 
 returns : tie.Need-returns
 unfolding valid_on
-returns c = c.all-within.ensures ∙ from_zero c.before.args.heights 13
+returns c = c.all_within.ensures ∙ from_zero c.args.heights 13
 
-pub is-valid-spec : {M : Type 1} → statement M
-is-valid-spec = tie.close (tie.spec all-within-requires returns)
+pub is_valid_spec : {M : Type 1} → statement M
+is_valid_spec =
+    tie.close
+    (tie.spec
+    all_within-requires
+    returns)

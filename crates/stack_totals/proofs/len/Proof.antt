@@ -14,4 +14,8 @@ unfolding cards_on
 returns c = omega (arith, c.weighed.ensures)
 
 pub len_spec : {M : Type 1} → statement M
-len_spec = tie.close (tie.spec weighed-requires returns)
+len_spec =
+    tie.close
+    (tie.spec
+    weighed-requires
+    returns)
