@@ -36,7 +36,8 @@ returns-in_default : tie.Need-returns-in_default
 unfolding of_kind
 returns-in_default c =
     let m = c.args.m in
-    let x = c.in_default in ?
+    let x = c.in_default.in_default-own.rest in
+    sym (last-kind c.args.kind x.0.0.0.1 x.0.0.1 x.0.1 x.1 m.deck_stack m.pile_stack m.deck_pile m.stack_pile m.reveal)
 
 pub of_kind_spec : {M : Type 1} → statement M
 of_kind_spec =
