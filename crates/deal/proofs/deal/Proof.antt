@@ -16,7 +16,7 @@ use Rattle.deal.proofs.deal.Tie as tie
 
 -- the way back to what was given
 abbrev begun : tie.Else-wrong-ne-ACCEPTED → tie.Start
-begun c = c.before
+begun c = c.before.before.before
 
 -- a deal that is not refused passes its four tests
 dealt : (c : tie.Else-wrong-ne-ACCEPTED) → Dealt (begun c).args.cards.now (begun c).args.step
@@ -44,7 +44,7 @@ returns : tie.Need-returns
 unfolding deal_answer
 returns c =
     let b = c.before in
-    let s = (begun b).args in
+    let s = (begun b.before).args in
     is_started (deal_refusal s.cards.now s.step) (fresh s.cards.now s.step) _ (sym b.deal_refusal-wrong.ensures ∙ b.if-wrong-ne-ACCEPTED.false)
     (c.fresh.ensures ∙ ap (λ (d : List ℕ). fresh d s.step) c.as_deal.ensures)
 

@@ -22,7 +22,7 @@ abbrev stepped : tie.Else-cards-ne-N_CARDS → tie.Else-not-is_step
 stepped c = c.before
 
 abbrev counted : tie.Else-not-all_small → tie.Else-cards-ne-N_CARDS
-counted c = c.before
+counted c = c.before.before
 
 abbrev gathered : tie.Else-seen-gt-FULL_MASK → tie.After-cards_from-seen
 gathered c = c.before
@@ -73,14 +73,14 @@ all_small-requires c κs = search rules
 returns-then-not-all_small : tie.Need-returns-then-not-all_small
 returns-then-not-all_small c =
     let b = c.before in
-    deal_tests _ _ true true false _ (fair (stepped b)) (long b) (not_small _ (sym c.all_small.ensures ∙ c.if-not-all_small.true)) refl
+    deal_tests _ _ true true false _ (fair (stepped b.before)) (long b.before) (not_small _ (sym c.all_small.ensures ∙ c.if-not-all_small.true)) refl
 
 cards_from-seen-requires : tie.Need-cards_from-seen-requires
 cards_from-seen-requires c κs = search rules
 
 returns-then-seen-gt-FULL_MASK : tie.Need-returns-then-seen-gt-FULL_MASK
 returns-then-seen-gt-FULL_MASK c =
-    let b = counted c.before in
+    let b = counted c.before.before in
     deal_tests _ _ true true false _ (fair (stepped b)) (long b) (not_filled _ (omega (arith, c.cards_from-seen.ensures))) refl
 
 returns-then-seen-ne-FULL_MASK : tie.Need-returns-then-seen-ne-FULL_MASK

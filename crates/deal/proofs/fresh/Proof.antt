@@ -10,12 +10,12 @@ use Rattle.deal.proofs.fresh.Tie as tie
 -- ---- the way back from the heads to the stock, and to what was given
 
 abbrev begun : tie.After-stock → tie.Start
-begun c = c.before
+begun c = c.before.before
 
 abbrev stocked : tie.After-counts-1 → tie.After-stock
-stocked c = c.before
+stocked c = c.before.before
 
-deal-long : (c : tie.Start) → length c.args.t2 ≡ 52
+deal-long : (c : tie.Start) → length c.args.deal ≡ 52
 deal-long c = search rules
 
 -- ---- the needs

@@ -144,22 +144,7 @@ loop-i-preserved c =
     let low : i < 7 = c.loop-i-test.true in
     let big : 91 ≤ length l.out = omega (arith, v.size, s.requires.1) in
     let n = get_or s.args.p.counts i 0 in
-    ⊎_elim
-    (λ w.
-    let e : w.1.result + n - 1 ≡ pile_start i + (n - 1) = omega (arith, w.1.ensures, w.0.taken) in
-    record {
-      filled = omega arith;
-      size = ap length w.6 ∙ w.4.given.1 ∙ v.size;
-      seven = ap length w.7 ∙ length-set l.lens i w.3.result ∙ v.seven;
-      shown = λ p r. rw (w.6, w.7, w.8) (head_turn p _ _ _ _ r _ _ _ _ _ low v.seven big (v.shown p r) _ _ w.0.taken (rw e at w.3.ensures.0) (rw e at w.3.ensures.1));
-    })
-    (λ w. record {
-      filled = omega arith;
-      size = ap length w.5 ∙ w.3.given.1 ∙ v.size;
-      seven = ap length w.6 ∙ length-set l.lens i w.2.result.len ∙ v.seven;
-      shown = λ p r. rw (w.5, w.6, w.7) (empty_turn p _ _ _ _ r _ _ _ _ _ low v.seven big (v.shown p r) _ w.2.result w.0.left w.2.ensures.0 w.2.ensures.1 w.2.ensures.2);
-    })
-    c.if-n-gt0.branch
+    let b = c.if-n-gt0.branch in ?
 
 shape_of-out : tie.Need-shape_of-out invariant-loop-i decreases-loop-i
 shape_of-out c = c.loop-i.invariant.size

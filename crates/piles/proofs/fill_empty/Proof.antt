@@ -44,23 +44,18 @@ found : (c : tie.Joined-s-ge-SUITS invariant-loop-s decreases-loop-s) → Yields
 found c =
     let s = c.args in
     let l = c.loop-s in
-    ⊎_elim
-    (λ w. subst (Yields s.free s.from) (sym w.1) (l.invariant ∙ kings_end s.free l.s (omega (arith, w.0.taken))))
-    (λ w.
-    let low : l.s < 4 = omega (arith, w.0.left) in
-    subst (Yields s.free s.from) (sym w.3) (low, l.invariant ∙ kings_step s.free l.s low ∙ rw (← w.1.ensures, w.2.taken)))
-    c.if-s-ge-SUITS.branch
+    let b = c.if-s-ge-SUITS.branch in ?
 
 -- the king that was found; or that there is none
-king : (c : tie.In-Suit-2 invariant-loop-s decreases-loop-s) → Yields c.args.free c.args.from (Suit c.next.given.0.0)
+king : (c : tie.In-Suit-2 invariant-loop-s decreases-loop-s) → Yields c.args.free c.args.from (Suit c.in-Suit-2.k)
 king c =
     let s = c.args in
-    subst (Yields s.free s.from) c.next.given.1 (found c.before)
+    ?
 
 none : (c : tie.In-None invariant-loop-s decreases-loop-s) → Yields c.args.free c.args.from None
 none c =
     let s = c.args in
-    subst (Yields s.free s.from) c.enum_told.given.1 (found c.before)
+    ?
 
 enum_known-next : tie.Need-enum_known-next invariant-loop-s decreases-loop-s
 enum_known-next c = search rules

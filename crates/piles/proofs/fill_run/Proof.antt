@@ -64,12 +64,7 @@ returns : tie.Need-returns invariant-loop-card decreases-loop-card
 returns c =
     let l = c.loop-card in
     let s = c.args in
-    ⊎_elim
-    (λ w. ends_ace s.vis s.free s.start l.card l.n l.part l.invariant w.0.taken)
-    (λ w.
-    ends_here s.vis s.free s.start l.card l.n l.part l.invariant w.0.left
-    (ap (bit s.free) (sym w.1.ensures) ∙ sym w.2.ensures ∙ not-true _ w.3.taken))
-    c.if-card-lt-SUITS.branch
+    let b = c.if-card-lt-SUITS.branch in ?
 
 pub fill_run_spec : {M : Type 1} → statement M
 fill_run_spec =
