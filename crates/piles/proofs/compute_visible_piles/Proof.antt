@@ -23,6 +23,7 @@ use Rattle.piles.proofs.Turn.{Shown, none_yet, head_turn, empty_turn, all_shown}
 use borrow.Author.Rules.{rules}
 use Rattle.piles.proofs.compute_visible_piles.Statement.{statement}
 use Rattle.piles.proofs.compute_visible_piles.Tie as tie
+use Rattle.piles.proofs.compute_visible_piles.Lts.{then-n-gt0, else-n-gt0}
 
 record Inv (out₀ deal counts : List ℕ) (vis free : ℕ) (out lens : List ℕ) (from i : ℕ) : Type 0 where
   filled : i ≤ 7
@@ -144,7 +145,22 @@ loop-i-preserved c =
     let low : i < 7 = c.loop-i-test.true in
     let big : 91 ≤ length l.out = omega (arith, v.size, s.requires.1) in
     let n = get_or s.args.p.counts i 0 in
-    let b = c.if-n-gt0.branch in ?
+    elim c.if-n-gt0.branch [
+      then-n-gt0 w ↦
+        let e : w.pile_start.result + n - 1 ≡ pile_start i + (n - 1) = omega (arith, w.pile_start.ensures, w.if-n-gt0.true) in
+        record {
+          filled = omega arith;
+          size = omega (arith, c.if-n-gt0.auto.out, v.size);
+          seven = ap length w.lens-is ∙ length-set l.lens i w.fill_run.result ∙ v.seven;
+          shown = λ p r. rw (w.out-is, w.lens-is, w.from-is) (head_turn p _ _ _ _ r _ _ _ _ _ low v.seven big (v.shown p r) _ _ w.if-n-gt0.true (rw e at w.fill_run.ensures.0) (rw e at w.fill_run.ensures.1));
+        }
+    | else-n-gt0 w ↦ record {
+        filled = omega arith;
+        size = omega (arith, c.if-n-gt0.auto.out, v.size);
+        seven = ap length w.lens-is ∙ length-set l.lens i w.fill_empty-f.result.len ∙ v.seven;
+        shown = λ p r. rw (w.out-is, w.lens-is, w.from-is) (empty_turn p _ _ _ _ r _ _ _ _ _ low v.seven big (v.shown p r) _ w.fill_empty-f.result w.if-n-gt0.false w.fill_empty-f.ensures.0 w.fill_empty-f.ensures.1 w.fill_empty-f.ensures.2);
+      }
+    ]
 
 shape_of-out : tie.Need-shape_of-out invariant-loop-i decreases-loop-i
 shape_of-out c = c.loop-i.invariant.size

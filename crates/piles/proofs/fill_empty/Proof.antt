@@ -11,6 +11,7 @@ use Rattle.piles.proofs.Kings.{Yields, kings_end, kings_step}
 use borrow.Author.Rules.{rules}
 use Rattle.piles.proofs.fill_empty.Statement.{statement}
 use Rattle.piles.proofs.fill_empty.Tie as tie
+use Rattle.piles.proofs.fill_empty.Lts.{then-s-ge-SUITS, else-s-ge-SUITS+then-has}
 
 abbrev invariant-loop-s : tie.invariant-loop-s
 invariant-loop-s part vis free from s₀ s = kings_of free from ≡ kings_of free s
@@ -44,18 +45,23 @@ found : (c : tie.Joined-s-ge-SUITS invariant-loop-s decreases-loop-s) → Yields
 found c =
     let s = c.args in
     let l = c.loop-s in
-    let b = c.if-s-ge-SUITS.branch in ?
+    elim c.if-s-ge-SUITS.branch [
+      then-s-ge-SUITS w ↦ subst (Yields s.free s.from) (sym w.next-is) (l.invariant ∙ kings_end s.free l.s (omega (arith, w.if-s-ge-SUITS.true)))
+    | else-s-ge-SUITS+then-has w ↦
+      let low : l.s < 4 = omega (arith, w.if-s-ge-SUITS.false) in
+      subst (Yields s.free s.from) (sym w.next-is) (low, l.invariant ∙ kings_step s.free l.s low ∙ rw (← w.has.ensures, w.if-has.true))
+    ]
 
 -- the king that was found; or that there is none
-king : (c : tie.In-Suit-2 invariant-loop-s decreases-loop-s) → Yields c.args.free c.args.from (Suit c.in-Suit-2.k)
+king : (c : tie.In-Suit invariant-loop-s decreases-loop-s) → Yields c.args.free c.args.from (Suit c.in-Suit.k)
 king c =
     let s = c.args in
-    ?
+    subst (Yields s.free s.from) c.in-Suit.is (found c.before)
 
 none : (c : tie.In-None invariant-loop-s decreases-loop-s) → Yields c.args.free c.args.from None
 none c =
     let s = c.args in
-    ?
+    subst (Yields s.free s.from) c.in-None.is (found c.before)
 
 enum_known-next : tie.Need-enum_known-next invariant-loop-s decreases-loop-s
 enum_known-next c = search rules
@@ -67,7 +73,7 @@ fill_run-len-requires : tie.Need-fill_run-len-requires invariant-loop-s decrease
 fill_run-len-requires c κs = (search rules, omega (arith, (king c.before).0))
 
 overflow_add-result : tie.Need-overflow_add-result invariant-loop-s decreases-loop-s
-overflow_add-result c = omega (arith, (king c.before).0)
+overflow_add-result c = omega (arith, (king c.before.before.before.before).0)
 
 enum_told-1 : tie.Need-enum_told-1 invariant-loop-s decreases-loop-s
 enum_told-1 c = search rules
@@ -80,7 +86,7 @@ shape_of-part-in-Suit c = search rules
 
 returns-in-Suit : tie.Need-returns-in-Suit invariant-loop-s decreases-loop-s
 returns-in-Suit c =
-    let e = (king c.before).1 in
+    let e = (king c.before.before.before.before).1 in
     let r = c.fill_run-len.ensures in
     (rw e r.0, rw e, rw e r.1)
 
@@ -89,7 +95,7 @@ shape_of-part-in-None c = search rules
 
 returns-in-None : tie.Need-returns-in-None invariant-loop-s decreases-loop-s
 returns-in-None c =
-    let e = none c.before in
+    let e = none c.before.before.before.before in
     (rw e, rw e (kings_end _ 4 (lit≤ tt)), rw e c.clear.ensures)
 
 pub fill_empty_spec : {M : Type 1} → statement M

@@ -12,6 +12,7 @@ use Rattle.piles.proofs.Row.{Written, ends_ace, ends_here, goes_on}
 use borrow.Author.Rules.{rules}
 use Rattle.piles.proofs.fill_run.Statement.{statement}
 use Rattle.piles.proofs.fill_run.Tie as tie
+use Rattle.piles.proofs.fill_run.Lts.{then-card-lt-SUITS, else-card-lt-SUITS+then-not-has}
 
 abbrev invariant-loop-card : tie.invariant-loop-card
 invariant-loop-card part₀ vis free start card₀ n₀ part card n = Written vis free start part card n
@@ -64,7 +65,12 @@ returns : tie.Need-returns invariant-loop-card decreases-loop-card
 returns c =
     let l = c.loop-card in
     let s = c.args in
-    let b = c.if-card-lt-SUITS.branch in ?
+    elim c.if-card-lt-SUITS.branch [
+      then-card-lt-SUITS w ↦ ends_ace s.vis s.free s.start l.card l.n l.part l.invariant w.if-card-lt-SUITS.true
+    | else-card-lt-SUITS+then-not-has w ↦
+      ends_here s.vis s.free s.start l.card l.n l.part l.invariant w.if-card-lt-SUITS.false
+      (ap (bit s.free) (sym w.next_card-card.ensures) ∙ sym w.has.ensures ∙ w.if-not-has.true)
+    ]
 
 pub fill_run_spec : {M : Type 1} → statement M
 fill_run_spec =

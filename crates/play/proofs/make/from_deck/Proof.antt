@@ -42,7 +42,7 @@ in_deck_lem : (c : tie.Start) → T (in_deck c.args.p c.args.card)
 in_deck_lem c =
     let a = c.args in
     let of : (k : ℕ) → a.kind ≡ k → T (legal a.p k a.card) = λ k e. subst (λ (x : ℕ). T (legal a.p x a.card)) e c.requires.1 in
-    ⊎_elim (λ e. deck_stack_in a.p a.card (of 0 e)) (λ e. deck_pile_in a.t1 a.card (of 2 e)) c.requires.2
+    ⊎_elim (λ e. deck_stack_in a.p a.card (of 0 e)) (λ e. deck_pile_in a.p a.card (of 2 e)) c.requires.2
 
 low : (c : tie.After-place_of-place) → c.place_of-place.result < (begun c).args.p.left
 unfolding deck_place
@@ -58,7 +58,7 @@ drew c =
     let d = c.before in
     let k = d.before in
     let b = begun k in
-    let p = b.args.t1 in
+    let p = b.args.p in
     let card = b.args.card in
     let kind = b.args.kind in
     let s = (drawn d).suit-suit.result in
@@ -82,7 +82,7 @@ place_of-place-requires : tie.Need-place_of-place-requires
 place_of-place-requires c κs = let b = c.before in (facts b.args.p b.requires.0).left
 
 draw-rest-requires : tie.Need-draw-rest-requires
-draw-rest-requires c κs = let b = begun c in (low c, (facts b.args.t1 b.requires.0).left)
+draw-rest-requires c κs = let b = begun c in (low c, (facts b.args.p b.requires.0).left)
 
 overflow_sub-p : tie.Need-overflow_sub-p
 overflow_sub-p c = omega (arith, low c.before)

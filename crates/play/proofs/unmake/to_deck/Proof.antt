@@ -34,7 +34,7 @@ room : (c : tie.Start) → c.args.p.left < 24
 room c =
     let a = c.args in
     let of : (k : ℕ) → a.kind ≡ k → T (has_way a.p a.byte k a.card) = λ k e. subst (λ (x : ℕ). T (has_way a.p a.byte x a.card)) e c.requires.1 in
-    ⊎_elim (λ e. deck_stack_way a.p a.byte a.card (of 0 e)) (λ e. deck_pile_way a.t1 a.byte a.card (of 2 e)) c.requires.2
+    ⊎_elim (λ e. deck_stack_way a.p a.byte a.card (of 0 e)) (λ e. deck_pile_way a.p a.byte a.card (of 2 e)) c.requires.2
 
 -- ---- what the code asks
 
@@ -45,7 +45,7 @@ overflow_cast-suit : tie.Need-overflow_cast-suit
 overflow_cast-suit c = search rules
 
 push-more-requires : tie.Need-push-more-requires
-push-more-requires c κs = let b = c.before in ((facts b.args.p b.requires.0).offset, room b)
+push-more-requires c κs = let b = c.before in ((facts b.args.p b.requires.0).offset, room b.before)
 
 overflow_add-p : tie.Need-overflow_add-p
 overflow_add-p c = omega (arith, room (begun c))
@@ -77,7 +77,7 @@ returns-else-kind-eq-DECK_STACK c =
     let a = b.args in
     let s = (pushed d.before).suit-suit in
     to_deck a.p a.byte a.card a.kind _ (⊎_elim (λ z. absurd (c.if-kind-eq-DECK_STACK.false z)) (λ z. z) b.requires.2)
-    (lifted_back a.t1 a.card s.result s.ensures c.unseen.result a.byte d.push-more.result c.unseen.ensures d.push-more.ensures)
+    (lifted_back a.p a.card s.result s.ensures c.unseen.result a.byte d.push-more.result c.unseen.ensures d.push-more.ensures)
 
 pub to_deck_spec : {M : Type 1} → statement M
 to_deck_spec =
