@@ -72,7 +72,7 @@ returns-then-s-ne0 c =
     let a = gathered c.before.before in
     let p = given a in
     c.refused.ensures
-    ∙ is_refused 8 (arrange_refusal (worked p)) (worked p) (arrange_tests (worked p) true _ (not-false _ (sym (meets_is p _ a.sets_of.ensures) ∙ ne_eqb _ 0 c.if-s-ne0.true)) refl) (λ e. omega arith)
+    ∙ is_refused 8 (arrange_refusal (worked p)) (worked p) (arrange_tests (worked p) true _ (not-false _ (sym (meets_is p _ a.sets_of-s.ensures) ∙ ne_eqb _ 0 c.if-s-ne0.true)) refl) (λ e. omega arith)
 
 pair_rule-requires : tie.Need-pair_rule-requires
 pair_rule-requires c κs = search rules

@@ -110,7 +110,7 @@ unfolding fields_of
 fits c = c.decode-piles.ensures.0 ∙ ap (λ (f : Fields). ltb f.piles 40320) (fields-2 c.before).fields_of-fields.ensures
 
 few : (c : tie.Else-not-piles) → code_piles (of-3 c).args.code < 40320
-few c = ltb-true _ _ (sym (fits (counted c)) ∙ c.if-not-piles.false)
+few c = ltb-true _ _ (sym (fits (counted c)) ∙ not-false _ c.if-not-piles.false)
 
 not-many : (c : tie.Else-not-piles) → leb 40320 (code_piles (of-3 c).args.code) ≡ false
 not-many c = lt-leb 40320 _ (few c)
@@ -206,7 +206,7 @@ unfolding resume_answer
 returns-then-not-piles c =
     let d = c.before in
     c.refused-then-not-piles.ensures
-    ∙ is_refused 6 _ _ (resume_tests _ _ _ (unrefused (fields-2 d.before.before.before).before) false true _ (low d.before.before.before) (le-leb 40320 _ (ltb-false (code_piles (of-2 d.before.before.before).args.code) 40320 (sym (fits d.before.before) ∙ c.if-not-piles.true))) refl) (λ e. omega arith)
+    ∙ is_refused 6 _ _ (resume_tests _ _ _ (unrefused (fields-2 d.before.before.before).before) false true _ (low d.before.before.before) (le-leb 40320 _ (ltb-false (code_piles (of-2 d.before.before.before).args.code) 40320 (sym (fits d.before.before) ∙ not-true _ c.if-not-piles.true))) refl) (λ e. omega arith)
 
 as_deal-deal-requires : tie.Need-as_deal-deal-requires
 as_deal-deal-requires c κs = (dealt (fields-3 c.before).before).long
@@ -238,7 +238,7 @@ returns-then-normalized_offset-offset c =
     let n = c.before in
     let e = stocked (drawn n.before.before) in
     c.refused-then-normalized_offset-offset.ensures
-    ∙ is_refused 7 _ _ (resume_tests _ _ _ (unrefused (fields-3 e).before) false false true (low (counted e).before) (not-many e) (offset_unstored _ _ (sym (stored n) ∙ ne_eqb _ _ c.if-normalized_offset-offset.true))) (λ z. omega arith)
+    ∙ is_refused 7 _ _ (resume_tests _ _ _ (unrefused (fields-3 e).before) false false true (low (counted e).before) (not-many e) (offset_unstored _ _ (sym (stored n.before) ∙ ne_eqb _ _ c.if-normalized_offset-offset.true))) (λ z. omega arith)
 
 arranged-requires : tie.Need-arranged-requires
 arranged-requires c κs =
