@@ -54,14 +54,7 @@ mid c =
     let s = c.suit-suit.result in
     let e = c.suit-suit.ensures in
     let m = c.match-kind in
-    ⊎_elim
-    (λ w. from_stack p card kind m.p m.byte m.pile w.0.keys1 (w.4 ∙ down_laid p card s e w.2.result w.3.result w.2.ensures w.3.ensures) w.5 w.6)
-    (⊎_elim
-    (λ w.
-    from_pile_up p card kind m.p m.byte m.pile b.requires.0 w.0.keys2 (w.4 ∙ up_lifted p card s e w.2.result w.2.ensures)
-    (w.5 ∙ ap (λ (i : ℕ). bool_byte (ltb i 7)) (sym w.6)) (w.6 ∙ w.3.ensures))
-    (λ w. to_pile p card kind m.p m.byte m.pile b.requires.0 b.requires.1 (rest b.requires.2 w.0.rest) w.2 w.3 (w.4 ∙ w.1.ensures)))
-    m.branch
+    let bb = c.match-kind.branch in ?
 
 -- the count of the pile that is turned
 fits : (c : tie.Then-pile-lt-N_PILES) → get_or c.match-kind.p.counts c.match-kind.pile 0 ≤ c.match-kind.pile + 1
@@ -72,7 +65,7 @@ fits c =
 place : (c : tie.After-pile_start) → let m = (under c).match-kind in c.pile_start.result + get_or m.p.counts m.pile 0 ≤ 52
 place c =
     let t = under c in
-    in_deal t.match-kind.pile (get_or t.match-kind.p.counts t.match-kind.pile 0) c.pile_start.result t.if-pile-lt-N_PILES.taken (fits t) c.pile_start.ensures
+    in_deal t.match-kind.pile (get_or t.match-kind.p.counts t.match-kind.pile 0) c.pile_start.result t.if-pile-lt-N_PILES.true (fits t) c.pile_start.ensures
 
 -- ---- the pile is turned, or there is none
 

@@ -46,16 +46,7 @@ mid c =
     let s = c.suit-suit.result in
     let e = c.suit-suit.ensures in
     let m = c.match-kind in
-    ⊎_elim
-    (λ w. to_stack p byte card kind m.p m.pile w.0.keys1 (w.3 ∙ lifted_up p card s e w.2.result w.2.ensures) w.4)
-    (⊎_elim
-    (λ w.
-    head_down p byte card kind m.p m.pile b.requires.0 b.requires.1 w.0.keys2 w.4.taken
-    (w.6 ∙ down_laid p card s e w.2.result w.3.result w.2.ensures w.3.ensures) (w.7 ∙ w.5.ensures))
-    (⊎_elim
-    (λ w. card_down p byte card kind m.p m.pile w.0.keys2 w.4.left (w.5 ∙ down_laid p card s e w.2.result w.3.result w.2.ensures w.3.ensures) w.6)
-    (λ w. head_back p byte card kind m.p m.pile b.requires.0 b.requires.1 (rest b.requires.2 w.0.rest) w.2 (w.3 ∙ w.1.ensures))))
-    m.branch
+    let bb = c.match-kind.branch in ?
 
 -- the count of the pile that is turned back
 fits : (c : tie.Then-pile-lt-N_PILES) → get_or c.match-kind.p.counts c.match-kind.pile 0 ≤ c.match-kind.pile + 1
@@ -66,7 +57,7 @@ fits c =
 place : (c : tie.After-pile_start) → let m = (under c).match-kind in c.pile_start.result + get_or m.p.counts m.pile 0 ≤ 52
 place c =
     let t = under c in
-    in_deal t.match-kind.pile (get_or t.match-kind.p.counts t.match-kind.pile 0) c.pile_start.result t.if-pile-lt-N_PILES.taken (fits t) c.pile_start.ensures
+    in_deal t.match-kind.pile (get_or t.match-kind.p.counts t.match-kind.pile 0) c.pile_start.result t.if-pile-lt-N_PILES.true (fits t) c.pile_start.ensures
 
 -- ---- what the code asks
 
