@@ -1,16 +1,17 @@
 // The program `show`: reads one byte of step and then the deal; prints the code and the five masks, or `refused N`.
-// `text` is what it prints, on slices: no contract can speak of what the system gives or takes.
+// `text` is what it prints, on slices, and `run` reads and writes it. No contract can speak of what the system gives or takes.
 #![tactic(auto)]
 
-ghost use Rattle.std.specs.Prelude.{◌≡◌, ◌++◌, ◌+◌, ◌<◌, ◌≤◌, T, length, drop};
+ghost use Rattle.std.specs.Prelude.{◌≡◌, ◌++◌, ◌+◌, ◌<◌, ◌≤◌, T, length, take, drop, IfSome, IfOk, OnOk};
 ghost use Rattle.std.specs.Io.{ReadsAtMost};
+ghost use Rattle.std.specs.Io.KnownBytes.{Appends, Consumes, IsAtEnd};
 ghost use Rattle.std.proofs.lemmas.List.Edits.{sets};
 ghost use Rattle.rules.specs.Proper.{proper};
 ghost use Rattle.rules.specs.Show.{digit as digit_of, hex_line, masks_text, shown as shown_text, refused_line, show_text};
 
 use rules::{Masks, Position};
 use std::io;
-use std::io::Read;
+use std::io::{Read, Write};
 
 // More than any deal that is not refused.
 const N_INPUT: usize = 4096;
@@ -113,7 +114,9 @@ fn text(input: &[u8], out: &mut [u8]) -> usize
 
 // Reads until buf is full or the input ends, and returns how many bytes it put at the start of buf.
 fn read_full<R: Read>(input: &mut R, buf: &mut [u8]) -> io::Result<usize>
-    ensures { ReadsAtMost result buf.new }
+    ensures in_bounds { ReadsAtMost result buf.new }
+    ensures bytes { IfOk result (λ n. Consumes (R.remaining input.old) (R.remaining input.new) (take n buf.new)) }
+    ensures end { IfOk result (λ n. n < length buf.new → IsAtEnd (R.remaining input.new)) }
 {
     let mut done: usize = 0;
     while done < buf.len() {
@@ -126,11 +129,18 @@ fn read_full<R: Read>(input: &mut R, buf: &mut [u8]) -> io::Result<usize>
     Ok(done)
 }
 
+// Reads the input, and writes what is to be printed for all of it.
 // What is past the buffer's bytes makes no difference: so long a deal is refused by its step or its length.
-fn main(rt: HostRuntime) -> io::Result<()> {
+fn run<R: Read, W: Write>(input: &mut R, output: &mut W) -> io::Result<()>
+    ensures { OnOk result (IfSome (R.remaining input.old) (λ xs. Appends (W.contents output.old) (W.contents output.new) (show_text xs))) }
+{
     let mut buf = [0u8; N_INPUT];
-    let n = read_full(&mut rt.stdin(), &mut buf)?;
+    let n = read_full(input, &mut buf)?;
     let mut out = [0u8; N_TEXT];
     let k = text(&buf[..n], &mut out);
-    rt.write_all(&out[..k])
+    output.write_all(&out[..k])
+}
+
+fn main(rt: HostRuntime) -> io::Result<()> {
+    run(&mut rt.stdin(), &mut rt.stdout())
 }
