@@ -1,6 +1,6 @@
 // A record's bytes; numbers of 2 and 8 bytes are little-endian. Past the end a byte reads 0 and a write does nothing,
 // so that no reader has to know a length.
-ghost use Rattle.std.specs.Prelude.{◌≡◌, ◌<◌, false, true, length, take, IfOk};
+ghost use Rattle.std.specs.Prelude.{◌≡◌, ◌<◌, false, true, length, take, IfSome, IfOk};
 ghost use Rattle.std.specs.Io.{ReadsAtMost};
 ghost use Rattle.std.specs.Io.KnownBytes.{Consumes, IsAtEnd};
 
@@ -37,9 +37,10 @@ fn read_full<R: Read>(input: &mut R, buf: &mut [u8]) -> io::Result<usize>
     Ok(done)
 }
 
-// A whole record is the next bytes of the input. One that is not whole is followed by none.
+// A whole record is the next bytes of the input. It is not whole where there were not so many, and then none is left.
 pub fn read<R: Read>(input: &mut R) -> io::Result<Row>
     ensures bytes { IfOk result (λ r. r.whole ≡ true → Consumes (R.remaining input.old) (R.remaining input.new) r.bytes) }
+    ensures short { IfOk result (λ r. r.whole ≡ false → IfSome (R.remaining input.old) (λ xs. length xs < 64)) }
     ensures end { IfOk result (λ r. r.whole ≡ false → IsAtEnd (R.remaining input.new)) }
 {
     let mut bytes = [0u8; SIZE];
@@ -52,7 +53,8 @@ pub fn read<R: Read>(input: &mut R) -> io::Result<Row>
 
 // Whether nothing is left to read.
 pub fn at_end<R: Read>(input: &mut R) -> io::Result<bool>
-    ensures { IfOk result (λ e. e ≡ true → IsAtEnd (R.remaining input.old)) }
+    ensures end { IfOk result (λ e. e ≡ true → IsAtEnd (R.remaining input.old)) }
+    ensures more { IfOk result (λ e. e ≡ false → IfSome (R.remaining input.old) (λ xs. 0 < length xs)) }
 {
     let mut r = [0u8; 1];
     let n = read_full(input, &mut r)?;
