@@ -1,5 +1,6 @@
 -- `engine_history::undo_move` meets its contract.
 -- Assumes nothing.
+use borrow.Author.Tests.{not-true, not-false}
 use borrow.Author.Rules.{rules}
 use borrow.Author.Tests.{le-ltb, lt-ltb, eq-eqb, ne_eqb}
 use mathlib.Core.Bool.{true, false}
@@ -101,7 +102,7 @@ returns-then-not-back c =
     let u = t.before in
     let z = gone u.before in
     let e = z.before in
-    rw (right e.before, within e, ne_eqb _ _ z.if-count-eq0.false, denied (asked u.before) t.if-not-back.true) c.refused_undo-then-not-back.ensures
+    rw (right e.before, within e, ne_eqb _ _ z.if-count-eq0.false, denied (asked u.before) (not-true _ t.if-not-back.true)) c.refused_undo-then-not-back.ensures
 
 overflow_sub-result : tie.Need-overflow_sub-result
 overflow_sub-result c = search rules
@@ -114,8 +115,8 @@ returns c =
     let z = gone u.before in
     let e = z.before in
     let a = (of-2 e).args in
-    let h = granted (asked u.before) t.if-not-back.false in
-    rw (right e.before, within e, ne_eqb _ _ z.if-count-eq0.left, h)
+    let h = granted (asked u.before) (not-false _ t.if-not-back.false) in
+    rw (right e.before, within e, ne_eqb _ _ z.if-count-eq0.false, h)
     (ap {B = Undone} (λ (x : Position). record { refusal = 0; position = x; count = a.count - 1 }) (ap (λ (x : Back). x.position) u.undo-back.ensures ∙ position_is a.p _ h))
 
 pub undo_move_spec : {M : Type 1} → statement M

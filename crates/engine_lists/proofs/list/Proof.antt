@@ -42,14 +42,14 @@ slice_bounds-result-end : tie.Need-slice_bounds-result-end
 slice_bounds-result-end c =
     let s = begun (listed c) in
     let l = (listed c).list_into-n in
-    let w = front _ s.args.p s.args.out.now l.last.1.1.0 l.result l.ensures.0 l.ensures.1 in
+    let w = front _ s.args.p s.args.out.now l.new.out l.result l.ensures.0 l.ensures.1 in
     w.0 ∙ sym (ap length w.1)
 
 returns : tie.Need-returns
 returns c =
     let s = begun (listed c) in
     let l = (listed c).list_into-n in
-    ((front s.args.pruned s.args.p s.args.out.now l.last.1.1.0 l.result l.ensures.0 l.ensures.1).1, refl)
+    ((front s.args.pruned s.args.p s.args.out.now l.new.out l.result l.ensures.0 l.ensures.1).1, refl)
 
 pub list_spec : {M : Type 1} → statement M
 list_spec =
