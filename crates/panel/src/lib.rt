@@ -189,7 +189,7 @@ pub extern "C" fn gravyhelm_deal_once(c: Cursor) -> DealtOnce
     deck::deal_once(c)
 }
 
-// The deal on a lent cursor is `deck::deal_once_lent` line by line, so that its proof serves.
+// The deal on a lent cursor: `deck::deal_once_lent` line by line.
 #[unsafe(no_mangle)]
 pub extern "C" fn gravyhelm_deal_once_lent(c: &mut Cursor) -> u8
     ensures { (result ≡ answer (deal_once_lent c.old)) × (c.new ≡ lent (deal_once_lent c.old)) }
