@@ -43,18 +43,12 @@ unfolding filled
 padded xs j e l = sym (fill_end xs j e l) ∙ ap (λ (l : List ℕ). l ++ replicate (24 - j) 0) (take_all j xs (omega arith))
 
 -- a part of d, copied over a part of s that is as long
-pub pasted : (d s : List ℕ) (from to n : ℕ) → from + n ≤ length d → to + n ≤ length s
-    → put_mid to (to + n - to) s (take (length (mid_of from (from + n - from) d)) (mid_of from (from + n - from) d) ++ drop (length (mid_of from (from + n - from) d)) (mid_of to (to + n - to) s)) ≡ paste s to (drop from d) n
+pub pasted : (d s : List ℕ) (from to n : ℕ) → from + n ≤ length d → to + n ≤ length s → put_mid to (to + n - to) s (mid_of from (from + n - from) d) ≡ paste s to (drop from d) n
 pasted d s from to n hd hs =
     let src : List ℕ = take n (drop from d) in
-    let dst : List ℕ = take n (drop to s) in
     let here : from + n - from ≡ n = omega arith in
     let there : to + n - to ≡ n = omega arith in
-    let long : length src ≡ n = length-take-le n (drop from d) (omega (arith, length-drop from d)) in
-    let room : length dst ≡ n = length-take-le n (drop to s) (omega (arith, length-drop to s)) in
-    let whole : take (length src) src ++ drop (length src) dst ≡ src =
-    ap₂ (λ (a b : List ℕ). a ++ b) (take_all (length src) src (omega arith)) (ap (λ (k : ℕ). drop k dst) (long ∙ sym room) ∙ drop-length dst) ∙ append-nil src in
-    rw (here, there) (ap₂ (λ (a b : List ℕ). take to s ++ (a ++ b)) whole (drop-drop n to s) ∙ sym (append_assoc (take to s) src (drop (to + n) s)))
+    rw (here, there) (ap (λ (r : List ℕ). take to s ++ (src ++ r)) (drop-drop n to s) ∙ sym (append_assoc (take to s) src (drop (to + n) s)))
 
 -- cards copied behind those in front of a deck's slots
 pub copied : (ys d : List ℕ) (from to n : ℕ) → length ys ≡ to → from + n ≤ length d → to + n ≤ 24 → paste (slots ys) to (drop from d) n ≡ slots (ys ++ take n (drop from d))

@@ -14,89 +14,89 @@ use borrow.Author.Rules.{rules}
 use Rattle.deck.proofs.find_card.Statement.{statement}
 use Rattle.deck.proofs.find_card.Tie as tie
 
-abbrev invariant-loop : tie.invariant-loop
-invariant-loop card deal deck left at₀ k₀ at k = Walk deal deck left k at × (k ≤ 24) × ((j : ℕ) → j < k → get_or deal (28 + j) 0 ≡ card → ⊥)
+abbrev invariant-loop-k : tie.invariant-loop-k
+invariant-loop-k card deal deck left at₀ k₀ at k = Walk deal deck left k at × (k ≤ 24) × ((j : ℕ) → j < k → get_or deal (28 + j) 0 ≡ card → ⊥)
 
-abbrev decreases-loop : tie.decreases-loop
-decreases-loop card deal deck left at₀ k₀ at k = 24 - k
+abbrev decreases-loop-k : tie.decreases-loop-k
+decreases-loop-k card deal deck left at₀ k₀ at k = 24 - k
 
 -- the deck is in order
-ordered : (c : tie.After-struct-known invariant-loop decreases-loop) → Right c.before.before.before.args.p.deal c.before.before.before.args.p.deck c.before.before.before.args.p.left
+ordered : (c : tie.After-struct_known-1 invariant-loop-k decreases-loop-k) → Right c.args.p.deal c.args.p.deck c.args.p.left
 ordered c =
-    let s = c.before.before.before in
-    let h = shape s.args.p _ s.well-formed.0 in
+    let s = c.before in
+    let h = shape s.args.p _ s.well_formed.0 in
     right s.args.p s.requires h.deal h.deck
 
-cast-left : tie.Need-overflow-cast-left invariant-loop decreases-loop
-cast-left c = search rules
+overflow_cast-left : tie.Need-overflow_cast-left invariant-loop-k decreases-loop-k
+overflow_cast-left c = search rules
 
-loop-holds : tie.Need-loop-init invariant-loop decreases-loop
-loop-holds c = let p = c.before.before.before.args.p in (walk_start p.deal p.deck p.left (ordered c), omega arith, λ j l e. omega arith)
+loop-k-init : tie.Need-loop-k-init invariant-loop-k decreases-loop-k
+loop-k-init c = let p = c.args.p in (walk_start p.deal p.deck p.left (ordered c), omega arith, λ j l e. omega arith)
 
-add-c : tie.Need-overflow-add-c invariant-loop decreases-loop
-add-c c = search rules
+overflow_add-c : tie.Need-overflow_add-c invariant-loop-k decreases-loop-k
+overflow_add-c c = search rules
 
-array-read-c : tie.Need-array-read-c invariant-loop decreases-loop
-array-read-c c = search rules
+bounds-deal-k : tie.Need-bounds-deal-k invariant-loop-k decreases-loop-k
+bounds-deal-k c = search rules
 
-stands-requires : tie.Need-stands-requires invariant-loop decreases-loop
-stands-requires c κs = omega (arith, (ordered c.before.before).fits)
+stands-hit-requires : tie.Need-stands-hit-requires invariant-loop-k decreases-loop-k
+stands-hit-requires c κs = omega (arith, (ordered c.before.before).fits)
 
-cast-t15 : tie.Need-overflow-cast-t15 invariant-loop decreases-loop
-cast-t15 c = omega (arith, (ordered c.before.before.before.before).fits, c.before.before.before.loop.invariant.0.low)
+overflow_cast-result : tie.Need-overflow_cast-result invariant-loop-k decreases-loop-k
+overflow_cast-result c = omega (arith, (ordered c.before.before.before.before).fits, c.loop-k.invariant.0.low)
 
-returns : tie.Need-returns invariant-loop decreases-loop
+returns-then-c-card : tie.Need-returns-then-c-card invariant-loop-k decreases-loop-k
 unfolding in_deck
-returns c =
-    let l = c.before.before.before.loop in
-    let p = c.before.before.before.before.before.before.before.args.p in
-    let s = walk_step p.deal p.deck p.left (ordered c.before.before.before.before) l.k l.at c.before.before.loop-test.true l.invariant.0 c.before.stands.result (sym c.before.stands.ensures) in (
-      sym s.0 ∙ ap (λ (x : ℕ). any_of p.left (λ j. eqb (get_or p.deck j 0) x)) c.if1.true,
-      found_at p c.before.before.before.before.before.before.before.args.card l.k l.at c.before.before.loop-test.true l.invariant.0 l.invariant.2 c.if1.true,
+returns-then-c-card c =
+    let l = c.loop-k in
+    let p = c.args.p in
+    let s = walk_step p.deal p.deck p.left (ordered c.before.before.before.before) l.k l.at c.loop-k-test.true l.invariant.0 c.stands-hit.result (sym c.stands-hit.ensures) in (
+      sym s.0 ∙ ap (λ (x : ℕ). any_of p.left (λ j. eqb (get_or p.deck j 0) x)) c.if-c-card.true,
+      found_at p c.args.card l.k l.at c.loop-k-test.true l.invariant.0 l.invariant.2 c.if-c-card.true,
     )
 
-cast-at : tie.Need-overflow-cast-at invariant-loop decreases-loop
-cast-at c = search rules
+overflow_cast-at : tie.Need-overflow_cast-at invariant-loop-k decreases-loop-k
+overflow_cast-at c = search rules
 
-add_at : tie.Need-overflow-add-at invariant-loop decreases-loop
-add_at c = omega (arith, byte_le c.before.stands.result, (ordered c.before.before.before.before).fits, c.before.before.before.loop.invariant.0.low)
+overflow_add-at : tie.Need-overflow_add-at invariant-loop-k decreases-loop-k
+overflow_add-at c = omega (arith, byte_le c.stands-hit.result, (ordered c.before.before.before.before).fits, c.loop-k.invariant.0.low)
 
-add-k : tie.Need-overflow-add-k invariant-loop decreases-loop
-add-k c = search rules
+overflow_add-k : tie.Need-overflow_add-k invariant-loop-k decreases-loop-k
+overflow_add-k c = search rules
 
-loop-less : tie.Need-loop-smaller invariant-loop decreases-loop
-loop-less c = search rules
+loop-k-smaller : tie.Need-loop-k-smaller invariant-loop-k decreases-loop-k
+loop-k-smaller c = search rules
 
-loop-again : tie.Need-loop-preserved invariant-loop decreases-loop
-loop-again c =
-    let l = c.before.before.before.loop in
-    let p = c.before.before.before.before.before.before.before.args.p in
-    let s = walk_step p.deal p.deck p.left (ordered c.before.before.before.before) l.k l.at c.before.before.loop-test.true l.invariant.0 c.before.stands.result (sym c.before.stands.ensures) in
-    (s.1, omega (arith, c.before.before.loop-test.true), below_more _ _ l.invariant.2 c.if1.false)
+loop-k-preserved : tie.Need-loop-k-preserved invariant-loop-k decreases-loop-k
+loop-k-preserved c =
+    let l = c.loop-k in
+    let p = c.args.p in
+    let s = walk_step p.deal p.deck p.left (ordered c.before.before.before.before) l.k l.at c.loop-k-test.true l.invariant.0 c.stands-hit.result (sym c.stands-hit.ensures) in
+    (s.1, omega (arith, c.loop-k-test.true), below_more _ _ l.invariant.2 c.if-c-card.false)
 
-returns-2 : tie.Need-returns-2 invariant-loop decreases-loop
-returns-2 c =
-    let l = c.before.loop in
-    let s = c.before.before.before.before.before in
-    let e : l.k ≡ 24 = omega (arith, c.loop-test.false, l.invariant.1) in
+returns : tie.Need-returns invariant-loop-k decreases-loop-k
+returns c =
+    let l = c.loop-k in
+    let s = c.before in
+    let e : l.k ≡ 24 = omega (arith, c.loop-k-test.false, l.invariant.1) in
     nowhere s.args.p s.args.card (ordered c.before.before) (λ j m. l.invariant.2 j (omega arith))
 
-pub find-card-spec : {M : Type 1} → statement M
-find-card-spec =
+pub find_card_spec : {M : Type 1} → statement M
+find_card_spec =
     tie.close
     (tie.spec
-    invariant-loop
-    decreases-loop
-    cast-left
-    loop-holds
-    add-c
-    array-read-c
-    stands-requires
-    cast-t15
-    returns
-    cast-at
-    add_at
-    add-k
-    loop-less
-    loop-again
-    returns-2)
+    invariant-loop-k
+    decreases-loop-k
+    overflow_cast-left
+    loop-k-init
+    overflow_add-c
+    bounds-deal-k
+    stands-hit-requires
+    overflow_cast-result
+    returns-then-c-card
+    overflow_cast-at
+    overflow_add-at
+    overflow_add-k
+    loop-k-smaller
+    loop-k-preserved
+    returns)

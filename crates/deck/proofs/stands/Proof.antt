@@ -5,14 +5,19 @@ use borrow.Author.Rules.{rules}
 use Rattle.deck.proofs.stands.Statement.{statement}
 use Rattle.deck.proofs.stands.Tie as tie
 
-array-read-result : tie.Need-array-read-result
-array-read-result c = search rules
+bounds-deck-at : tie.Need-bounds-deck-at
+bounds-deck-at c = search rules
+
+returns-then-at-left : tie.Need-returns-then-at-left
+returns-then-at-left c = simp (lt-ltb _ _ c.if-at-left.true)
 
 returns : tie.Need-returns
-returns c = simp (lt-ltb _ _ c.if1.true)
+returns c = simp (le-ltb _ _ c.if-at-left.false)
 
-returns-2 : tie.Need-returns-2
-returns-2 c = simp (le-ltb _ _ c.if1.false)
-
-pub stands-spec : {M : Type 1} → statement M
-stands-spec = tie.close (tie.spec array-read-result returns returns-2)
+pub stands_spec : {M : Type 1} → statement M
+stands_spec =
+    tie.close
+    (tie.spec
+    bounds-deck-at
+    returns-then-at-left
+    returns)

@@ -11,10 +11,10 @@ use Rattle.deck_cursor.proofs.refusal.Tie as tie
 
 -- the step is none, or it is one
 wrong-step : (c : tie.Then-not-is_step) → step_right c.args.step ≡ false
-wrong-step c = sym c.is_step.ensures ∙ not-true c.is_step.result c.if-not-is_step.true
+wrong-step c = sym c.is_step.ensures ∙ c.if-not-is_step.true
 
 right-step : (c : tie.Else-not-is_step) → step_right c.args.step ≡ true
-right-step c = sym c.is_step.ensures ∙ not-false c.is_step.result c.if-not-is_step.false
+right-step c = sym c.is_step.ensures ∙ c.if-not-is_step.false
 
 is_step-requires : tie.Need-is_step-requires
 is_step-requires c κs = search rules
@@ -29,11 +29,11 @@ returns-then-len-gt-FULL_DECK c = simp (right-step c.before, lt-ltb _ _ c.if-len
 
 returns-then-len-cur : tie.Need-returns-then-len-cur
 unfolding cursor_refusal
-returns-then-len-cur c = simp (right-step c.before, le-ltb _ _ c.if-len-gt-FULL_DECK.false, lt-ltb _ _ c.if-len-cur.true)
+returns-then-len-cur c = simp (right-step c.before.before, le-ltb _ _ c.if-len-gt-FULL_DECK.false, lt-ltb _ _ c.if-len-cur.true)
 
 returns : tie.Need-returns
 unfolding cursor_refusal
-returns c = simp (right-step c.before, le-ltb _ _ c.if-len-gt-FULL_DECK.false, le-ltb _ _ c.if-len-cur.false)
+returns c = simp (right-step c.before.before, le-ltb _ _ c.if-len-gt-FULL_DECK.false, le-ltb _ _ c.if-len-cur.false)
 
 pub refusal_spec : {M : Type 1} → statement M
 refusal_spec =

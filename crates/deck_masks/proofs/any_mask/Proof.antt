@@ -12,6 +12,7 @@ use Rattle.deck_masks.proofs.Reach.{Ends, ends_pure, ends_off, round}
 use borrow.Author.Rules.{rules}
 use Rattle.deck_masks.proofs.any_mask.Statement.{statement}
 use Rattle.deck_masks.proofs.any_mask.Tie as tie
+use Rattle.deck_masks.proofs.any_mask.Lts.{then-end-gt0, else-end-gt0, then-offset-step-ne0, else-offset-step-ne0}
 
 overflow_cast-left : tie.Need-overflow_cast-left
 overflow_cast-left c = search rules
@@ -38,8 +39,11 @@ end : (c : tie.After-soon_mask) → Ends c.args.p c.if-end-gt0.end
 end c =
     let p = c.args.p in
     let f = facts p c.requires in
-    let less : c.if-end-gt0.end ≡ c.if-offset-step-ne0.end - 1 = ⊎_elim (λ w. omega (arith, w.2)) (λ w. omega (arith, w.0.left, w.1)) c.if-end-gt0.branch in
-    ⊎_elim (λ w. ends_off p c.if-end-gt0.end (omega (arith, w.1))) (λ w. ends_pure p c.if-end-gt0.end f.offset w.0.left (omega (arith, w.1))) c.if-offset-step-ne0.branch
+    let less : c.if-end-gt0.end ≡ c.if-offset-step-ne0.end - 1 = elim c.if-end-gt0.branch [ then-end-gt0 w ↦ omega arith | else-end-gt0 w ↦ omega arith ] in
+    elim c.if-offset-step-ne0.branch [
+      then-offset-step-ne0 w ↦ ends_off p c.if-end-gt0.end (omega (arith, w.end-is))
+    | else-offset-step-ne0 w ↦ ends_pure p c.if-end-gt0.end f.offset w.if-offset-step-ne0.false (omega (arith, w.end-is))
+    ]
 
 walk-requires : tie.Need-walk-requires
 walk-requires c κs =

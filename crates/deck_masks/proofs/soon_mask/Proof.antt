@@ -20,6 +20,7 @@ use Rattle.deck_masks.proofs.Reach.{Starts, starts_zero, starts_pos, soon}
 use borrow.Author.Rules.{rules}
 use Rattle.deck_masks.proofs.soon_mask.Statement.{statement}
 use Rattle.deck_masks.proofs.soon_mask.Tie as tie
+use Rattle.deck_masks.proofs.soon_mask.Lts.{then-offset-gt0, else-offset-gt0}
 
 empty : (p : Position) → p.left ≡ 0 → 0 ≡ mask_of 52 (available_soon p)
 unfolding available_soon
@@ -49,7 +50,7 @@ overflow_sub-from-then-offset-gt0 c = search rules
 walk-requires : tie.Need-walk-requires
 walk-requires c κs =
     let f = facts c.args.p c.requires in
-    let low : c.if-offset-gt0.from ≤ 24 = ⊎_elim (λ w. omega (arith, f.left, f.offset)) (λ w. omega (arith, f.step)) c.if-offset-gt0.branch in
+    let low : c.if-offset-gt0.from ≤ 24 = elim c.if-offset-gt0.branch [ then-offset-gt0 w ↦ omega (arith, f.left, f.offset) | else-offset-gt0 w ↦ omega (arith, f.step) ] in
     (f.step_pos, f.step, low, omega (arith, f.left), λ k l. deck_cards c.args.p _ c.well_formed.0 c.requires k (omega arith))
 
 bounds-deck-last : tie.Need-bounds-deck-last
@@ -69,10 +70,10 @@ returns c =
     let n : 0 < p.left = omega arith in
     let from = c.if-offset-gt0.from in
     let s : Starts from p.offset p.step =
-    ⊎_elim
-    (λ w. subst (λ (x : ℕ). Starts x p.offset p.step) (sym w.1) (starts_pos p.offset p.step w.0.taken))
-    (λ w. subst (λ (x : ℕ). Starts x p.offset p.step) (sym w.1) (starts_zero p.offset p.step f.step_pos w.0.left))
-    c.if-offset-gt0.branch in
+    elim c.if-offset-gt0.branch [
+      then-offset-gt0 w ↦ subst (λ (x : ℕ). Starts x p.offset p.step) (sym w.from-is) (starts_pos p.offset p.step w.if-offset-gt0.true)
+    | else-offset-gt0 w ↦ subst (λ (x : ℕ). Starts x p.offset p.step) (sym w.from-is) (starts_zero p.offset p.step f.step_pos w.if-offset-gt0.false)
+    ] in
     ap₂ bit_or c.walk.ensures c.card_mask.ensures
     ∙ soon p from f.left f.step_pos f.offset n (deck_cards p _ c.well_formed.0 c.requires (p.left - 1) (omega arith)) s
 

@@ -42,7 +42,7 @@ shape_of-out c = search rules
 returns : tie.Need-returns
 returns c =
     let a = c.args in
-    ap (put_mid a.to (a.to + a.n - a.to) a.out.now) c.copy.ensures.1 ∙ pasted a.deck.now a.out.now a.from a.to a.n (omega arith) (omega arith)
+    ap (put_mid a.to (a.to + a.n - a.to) a.out.now) c.copy_from_slice.ensures.1 ∙ pasted a.deck.now a.out.now a.from a.to a.n (omega arith) (omega arith)
 
 pub copy_spec : {M : Type 1} → statement M
 copy_spec =

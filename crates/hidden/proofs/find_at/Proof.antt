@@ -16,114 +16,114 @@ use Rattle.hidden.proofs.Found.{card_there, other_card, no_place, place_fits, pl
 use Rattle.hidden.proofs.find_at.Statement.{statement}
 use Rattle.hidden.proofs.find_at.Tie as tie
 
-abbrev invariant-loop : tie.invariant-loop
-invariant-loop deal counts up card i₀ i = (i ≤ 7) × ((k : ℕ) → k < i → stands_at deal counts up card k ≡ true → ⊥)
+abbrev invariant-loop-i : tie.invariant-loop-i
+invariant-loop-i deal counts up card i₀ i = (i ≤ 7) × ((k : ℕ) → k < i → stands_at deal counts up card k ≡ true → ⊥)
 
-abbrev decreases-loop : tie.decreases-loop
-decreases-loop deal counts up card i₀ i = 7 - i
+abbrev decreases-loop-i : tie.decreases-loop-i
+decreases-loop-i deal counts up card i₀ i = 7 - i
 
 -- the place, counted from 1
-abbrev place_of : tie.In-loop invariant-loop decreases-loop → ℕ
-place_of c = get_or c.before.before.args.counts.now c.before.loop.i 0 + c.before.before.args.up
+abbrev place_of : tie.In-loop-i invariant-loop-i decreases-loop-i → ℕ
+place_of c = get_or c.args.counts.now c.loop-i.i 0 + c.args.up
 
 -- it lies in the deal
-fits : (c : tie.In-loop invariant-loop decreases-loop) → place_of c ≤ c.before.loop.i + 2
-fits c = omega (arith, c.before.before.requires.0 c.before.loop.i c.loop-test.true, c.before.before.requires.1)
+fits : (c : tie.In-loop-i invariant-loop-i decreases-loop-i) → place_of c ≤ c.loop-i.i + 2
+fits c = omega (arith, c.requires.0 c.loop-i.i c.loop-i-test.true, c.requires.1)
 
-there : (c : tie.After-pile-start invariant-loop decreases-loop) → (0 < place_of c.before.before.before.before) × (c.pile-start.result + place_of c.before.before.before.before ≤ 52)
+there : (c : tie.After-pile_start invariant-loop-i decreases-loop-i) → (0 < place_of c.before.before.before.before.before) × (c.pile_start.result + place_of c.before.before.before.before.before ≤ 52)
 there c =
-    let b = c.before.before.before.before in
-    let h = sym c.before.before.has-place.ensures ∙ c.before.if1.true in
-    (place_some (place_of b) b.before.loop.i h, in_deal b.before.loop.i (place_of b) c.pile-start.result b.loop-test.true (place_fits (place_of b) b.before.loop.i h) c.pile-start.ensures)
+    let b = c.before in
+    let h = sym c.has_place.ensures ∙ c.else-has_place.true in
+    (place_some (place_of b) b.loop-i.i h, in_deal b.loop-i.i (place_of b) c.pile_start.result b.loop-i-test.true (place_fits (place_of b) b.loop-i.i h) c.pile_start.ensures)
 
-loop-holds : tie.Need-loop-init invariant-loop decreases-loop
-loop-holds c = search rules
+loop-i-init : tie.Need-loop-i-init invariant-loop-i decreases-loop-i
+loop-i-init c = search rules
 
-element-copy-out-m : tie.Need-element-copy-out-m invariant-loop decreases-loop
-element-copy-out-m c = search rules
+bounds-counts-i : tie.Need-bounds-counts-i invariant-loop-i decreases-loop-i
+bounds-counts-i c = search rules
 
-cast-m : tie.Need-overflow-cast-m invariant-loop decreases-loop
-cast-m c = omega (arith, fits c.before)
+overflow_cast-m : tie.Need-overflow_cast-m invariant-loop-i decreases-loop-i
+overflow_cast-m c = omega (arith, fits c.before.before)
 
-add-m : tie.Need-overflow-add-m invariant-loop decreases-loop
-add-m c = omega (arith, fits c.before)
+overflow_add-m : tie.Need-overflow_add-m invariant-loop-i decreases-loop-i
+overflow_add-m c = omega (arith, fits c.before.before)
 
-has-place-requires : tie.Need-has-place-requires invariant-loop decreases-loop
-has-place-requires c κs = search rules
+has_place-requires : tie.Need-has_place-requires invariant-loop-i decreases-loop-i
+has_place-requires c κs = search rules
 
-pile-start-requires : tie.Need-pile-start-requires invariant-loop decreases-loop
-pile-start-requires c κs = search rules
+pile_start-requires : tie.Need-pile_start-requires invariant-loop-i decreases-loop-i
+pile_start-requires c κs = search rules
 
-cast-if2 : tie.Need-overflow-cast-if2 invariant-loop decreases-loop
-cast-if2 c = search rules
+overflow_cast-pile_start : tie.Need-overflow_cast-pile_start invariant-loop-i decreases-loop-i
+overflow_cast-pile_start c = search rules
 
-add-if2 : tie.Need-overflow-add-if2 invariant-loop decreases-loop
-add-if2 c = omega (arith, (there c).1)
+overflow_add-pile_start : tie.Need-overflow_add-pile_start invariant-loop-i decreases-loop-i
+overflow_add-pile_start c = omega (arith, (there c).1)
 
-sub-if2 : tie.Need-overflow-sub-if2 invariant-loop decreases-loop
-sub-if2 c = omega (arith, (there c).0)
+overflow_sub-pile_start : tie.Need-overflow_sub-pile_start invariant-loop-i decreases-loop-i
+overflow_sub-pile_start c = omega (arith, (there c).0)
 
-element-copy-out-if2 : tie.Need-element-copy-out-if2 invariant-loop decreases-loop
-element-copy-out-if2 c = omega (arith, (there c).1)
+bounds-deal-pile_start : tie.Need-bounds-deal-pile_start invariant-loop-i decreases-loop-i
+bounds-deal-pile_start c = omega (arith, (there c).1)
 
-returns : tie.Need-returns invariant-loop decreases-loop
-returns c =
-    let b = c.before.before.before.before.before.before in
-    let a = b.before.before.args in
-    let i = b.before.loop.i in
-    let m = place_of b in
-    let s = c.before.before.pile-start.result in
-    let k : s + m - 1 ≡ pile_start i + (m - 1) = omega (arith, c.before.before.pile-start.ensures, (there c.before.before).0) in
-    sym (first_at 7 (λ j. stands_at a.deal.now a.counts.now a.up a.card j) i b.loop-test.true b.before.loop.invariant.1
-    (card_there a.deal.now a.card (s + m - 1) (pile_start i + (m - 1)) k (has_place m i) (sym c.before.before.before.before.has-place.ensures ∙ c.before.before.before.if1.true) c.if2.true))
+returns-then-deal-pile_start : tie.Need-returns-then-deal-pile_start invariant-loop-i decreases-loop-i
+returns-then-deal-pile_start c =
+    let b = c.before in
+    let a = b.args in
+    let i = b.loop-i.i in
+    let m = place_of b.before.before.before.before.before.before.before in
+    let s = c.pile_start.result in
+    let k : s + m - 1 ≡ pile_start i + (m - 1) = omega (arith, c.pile_start.ensures, (there c.before).0) in
+    sym (first_at 7 (λ j. stands_at a.deal.now a.counts.now a.up a.card j) i b.loop-i-test.true b.loop-i.invariant.1
+    (card_there a.deal.now a.card (s + m - 1) (pile_start i + (m - 1)) k (has_place m i) (sym c.has_place.ensures ∙ c.else-has_place.true) c.if-deal-pile_start.true))
 
-add-i : tie.Need-overflow-add-i invariant-loop decreases-loop
-add-i c = search rules
+overflow_add-i : tie.Need-overflow_add-i invariant-loop-i decreases-loop-i
+overflow_add-i c = search rules
 
-loop-less : tie.Need-loop-smaller invariant-loop decreases-loop
-loop-less c = search rules
+loop-i-smaller : tie.Need-loop-i-smaller invariant-loop-i decreases-loop-i
+loop-i-smaller c = search rules
 
-loop-again : tie.Need-loop-preserved invariant-loop decreases-loop
-loop-again c =
-    let b = c.before.before.before in
-    let a = b.before.before.args in
-    let i = b.before.loop.i in
-    let m = place_of b in (
+loop-i-preserved : tie.Need-loop-i-preserved invariant-loop-i decreases-loop-i
+loop-i-preserved c =
+    let b = c.before in
+    let a = b.args in
+    let i = b.loop-i.i in
+    let m = place_of b.before.before.before in (
       omega arith,
-      below_more _ _ b.before.loop.invariant.1
+      below_more _ _ b.loop-i.invariant.1
           (⊎_elim
           (λ w.
           let s = w.1.result in
-          let h = sym c.before.has-place.ensures ∙ w.0.taken in
+          let h = sym c.has_place.ensures ∙ w.0.taken in
           let k : s + m - 1 ≡ pile_start i + (m - 1) = omega (arith, w.1.ensures, place_some m i h) in
           other_card a.deal.now a.card (s + m - 1) (pile_start i + (m - 1)) k (has_place m i) w.3.left)
-          (λ w. no_place (has_place m i) _ (sym c.before.has-place.ensures ∙ w.left))
-          c.if1.branch),
+          (λ w. no_place (has_place m i) _ (sym c.has_place.ensures ∙ w.left))
+          c.else-has_place.branch),
     )
 
-returns-2 : tie.Need-returns-2 invariant-loop decreases-loop
-returns-2 c =
-    let e : c.before.loop.i ≡ 7 = omega arith in
-    e ∙ sym (first_none 7 _ (rw e at c.before.loop.invariant.1))
+returns : tie.Need-returns invariant-loop-i decreases-loop-i
+returns c =
+    let e : c.loop-i.i ≡ 7 = omega arith in
+    e ∙ sym (first_none 7 _ (rw e at c.loop-i.invariant.1))
 
-pub find-at-spec : {M : Type 1} → statement M
-find-at-spec =
+pub find_at_spec : {M : Type 1} → statement M
+find_at_spec =
     tie.close
     (tie.spec
-    invariant-loop
-    decreases-loop
-    loop-holds
-    element-copy-out-m
-    cast-m
-    add-m
-    has-place-requires
-    pile-start-requires
-    cast-if2
-    add-if2
-    sub-if2
-    element-copy-out-if2
-    returns
-    add-i
-    loop-less
-    loop-again
-    returns-2)
+    invariant-loop-i
+    decreases-loop-i
+    loop-i-init
+    bounds-counts-i
+    overflow_cast-m
+    overflow_add-m
+    has_place-requires
+    pile_start-requires
+    overflow_cast-pile_start
+    overflow_add-pile_start
+    overflow_sub-pile_start
+    bounds-deal-pile_start
+    returns-then-deal-pile_start
+    overflow_add-i
+    loop-i-smaller
+    loop-i-preserved
+    returns)

@@ -8,12 +8,16 @@ use Rattle.hidden.proofs.Found.{bare_stands}
 use Rattle.hidden.proofs.find_bare.Statement.{statement}
 use Rattle.hidden.proofs.find_bare.Tie as tie
 
-find-at-requires : tie.Need-find-at-requires
-find-at-requires c κs = search rules
+find_at-requires : tie.Need-find_at-requires
+find_at-requires c κs = search rules
 
 returns : tie.Need-returns
 unfolding bare_pile
-returns c = let a = c.before.args in c.find_at.ensures ∙ first_ext 7 _ _ (λ k l. bare_stands a.deal.now a.counts.now a.card k)
+returns c = let a = c.args in c.find_at.ensures ∙ first_ext 7 _ _ (λ k l. bare_stands a.deal.now a.counts.now a.card k)
 
-pub find-bare-spec : {M : Type 1} → statement M
-find-bare-spec = tie.close (tie.spec find-at-requires returns)
+pub find_bare_spec : {M : Type 1} → statement M
+find_bare_spec =
+    tie.close
+    (tie.spec
+    find_at-requires
+    returns)

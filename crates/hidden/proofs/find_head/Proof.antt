@@ -8,12 +8,16 @@ use Rattle.hidden.proofs.Found.{head_stands}
 use Rattle.hidden.proofs.find_head.Statement.{statement}
 use Rattle.hidden.proofs.find_head.Tie as tie
 
-find-at-requires : tie.Need-find-at-requires
-find-at-requires c κs = search rules
+find_at-requires : tie.Need-find_at-requires
+find_at-requires c κs = search rules
 
 returns : tie.Need-returns
 unfolding head_pile
-returns c = let a = c.before.args in c.find_at.ensures ∙ first_ext 7 _ _ (λ k l. head_stands a.deal.now a.counts.now c.before.requires a.card k l)
+returns c = let a = c.args in c.find_at.ensures ∙ first_ext 7 _ _ (λ k l. head_stands a.deal.now a.counts.now c.requires a.card k l)
 
-pub find-head-spec : {M : Type 1} → statement M
-find-head-spec = tie.close (tie.spec find-at-requires returns)
+pub find_head_spec : {M : Type 1} → statement M
+find_head_spec =
+    tie.close
+    (tie.spec
+    find_at-requires
+    returns)

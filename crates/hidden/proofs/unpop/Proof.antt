@@ -7,21 +7,28 @@ use Rattle.rules.specs.Hidden.{one_more, covered_in}
 use Rattle.hidden.proofs.unpop.Statement.{statement}
 use Rattle.hidden.proofs.unpop.Tie as tie
 
-array-read-n : tie.Need-array-read-n
-array-read-n c = search rules
+bounds-counts-pile : tie.Need-bounds-counts-pile
+bounds-counts-pile c = search rules
 
-add-after : tie.Need-overflow-add-after
-add-after c = omega (arith, c.requires.1 c.args.pile c.requires.0)
+overflow_add-after : tie.Need-overflow_add-after
+overflow_add-after c = omega (arith, c.requires.1 c.args.pile c.requires.0)
 
-array-write-after : tie.Need-array-write-after
-array-write-after c = search rules
+bounds-after-pile : tie.Need-bounds-after-pile
+bounds-after-pile c = search rules
 
-last-of-requires : tie.Need-last-of-requires
-last-of-requires c κs = (c.requires.0, c.requires.1 c.args.pile c.requires.0)
+last_of-requires : tie.Need-last_of-requires
+last_of-requires c κs = (c.requires.0, c.requires.1 c.args.pile c.requires.0)
 
 returns : tie.Need-returns
 unfolding one_more covered_in
-returns c = (refl, c.last-of.ensures)
+returns c = (refl, c.last_of.ensures)
 
-pub unpop-spec : {M : Type 1} → statement M
-unpop-spec = tie.close (tie.spec array-read-n add-after array-write-after last-of-requires returns)
+pub unpop_spec : {M : Type 1} → statement M
+unpop_spec =
+    tie.close
+    (tie.spec
+    bounds-counts-pile
+    overflow_add-after
+    bounds-after-pile
+    last_of-requires
+    returns)

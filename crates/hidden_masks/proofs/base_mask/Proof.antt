@@ -23,12 +23,16 @@ heads-of-one : (d : List ℕ) (c : ℕ) → head_in d (replicate 7 1) c ≡ base
 unfolding head_in base_in any_of
 heads-of-one d c = refl
 
-head-mask-requires : tie.Need-head-mask-requires
+head_mask-requires : tie.Need-head_mask-requires
 unfolding all_of
-head-mask-requires c κs = (c.before.requires, fit _ refl)
+head_mask-requires c κs = (c.requires, fit _ refl)
 
 returns : tie.Need-returns
-returns c = c.head-mask.ensures ∙ mask_ext 52 _ _ (λ x l. heads-of-one c.before.before.args.deal.now x)
+returns c = c.head_mask.ensures ∙ mask_ext 52 _ _ (λ x l. heads-of-one c.args.deal.now x)
 
-pub base-mask-spec : {M : Type 1} → statement M
-base-mask-spec = tie.close (tie.spec head-mask-requires returns)
+pub base_mask_spec : {M : Type 1} → statement M
+base_mask_spec =
+    tie.close
+    (tie.spec
+    head_mask-requires
+    returns)

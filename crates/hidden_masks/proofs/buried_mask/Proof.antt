@@ -14,79 +14,79 @@ use Rattle.hidden_masks.proofs.Collected.{fronts, fronts_step, in_deal}
 use Rattle.hidden_masks.proofs.buried_mask.Statement.{statement}
 use Rattle.hidden_masks.proofs.buried_mask.Tie as tie
 
-abbrev invariant-loop : tie.invariant-loop
-invariant-loop deal counts mask₀ i₀ mask i = (i ≤ 7) × (mask ≡ fronts deal (λ j. get_or counts j 0 - 1) i)
+abbrev invariant-loop-i : tie.invariant-loop-i
+invariant-loop-i deal counts mask₀ i₀ mask i = (i ≤ 7) × (mask ≡ fronts deal (λ j. get_or counts j 0 - 1) i)
 
-abbrev decreases-loop : tie.decreases-loop
-decreases-loop deal counts mask₀ i₀ mask i = 7 - i
+abbrev decreases-loop-i : tie.decreases-loop-i
+decreases-loop-i deal counts mask₀ i₀ mask i = 7 - i
 
 -- the count of the pile
-abbrev count_of : tie.In-loop invariant-loop decreases-loop → ℕ
-count_of c = get_or c.before.before.args.counts.now c.before.loop.i 0
+abbrev count_of : tie.In-loop-i invariant-loop-i decreases-loop-i → ℕ
+count_of c = get_or c.args.counts.now c.loop-i.i 0
 
-fits : (c : tie.In-loop invariant-loop decreases-loop) → count_of c ≤ c.before.loop.i + 1
-fits c = c.before.before.requires.1 c.before.loop.i c.loop-test.true
+fits : (c : tie.In-loop-i invariant-loop-i decreases-loop-i) → count_of c ≤ c.loop-i.i + 1
+fits c = c.requires.1 c.loop-i.i c.loop-i-test.true
 
-loop-holds : tie.Need-loop-init invariant-loop decreases-loop
+loop-i-init : tie.Need-loop-i-init invariant-loop-i decreases-loop-i
 unfolding mask_of any_of
-loop-holds c = (omega arith, refl)
+loop-i-init c = (omega arith, refl)
 
-element-copy-out-n : tie.Need-element-copy-out-n invariant-loop decreases-loop
-element-copy-out-n c = search rules
+bounds-counts-i : tie.Need-bounds-counts-i invariant-loop-i decreases-loop-i
+bounds-counts-i c = search rules
 
-cast-n : tie.Need-overflow-cast-n invariant-loop decreases-loop
-cast-n c = omega (arith, fits c.before)
+overflow_cast-n : tie.Need-overflow_cast-n invariant-loop-i decreases-loop-i
+overflow_cast-n c = omega (arith, fits c.before.before)
 
-cast-head : tie.Need-overflow-cast-head invariant-loop decreases-loop
-cast-head c = search rules
+overflow_cast-head : tie.Need-overflow_cast-head invariant-loop-i decreases-loop-i
+overflow_cast-head c = search rules
 
-pile-start-requires : tie.Need-pile-start-requires invariant-loop decreases-loop
-pile-start-requires c κs = search rules
+pile_start-requires : tie.Need-pile_start-requires invariant-loop-i decreases-loop-i
+pile_start-requires c κs = search rules
 
-cast-cards-from : tie.Need-overflow-cast-cards-from invariant-loop decreases-loop
-cast-cards-from c = search rules
+overflow_cast-pile_start : tie.Need-overflow_cast-pile_start invariant-loop-i decreases-loop-i
+overflow_cast-pile_start c = search rules
 
-sub-cards-from : tie.Need-overflow-sub-cards-from invariant-loop decreases-loop
-sub-cards-from c = some_le _ (count_of c.before.before.before)
+overflow_sub-n : tie.Need-overflow_sub-n invariant-loop-i decreases-loop-i
+overflow_sub-n c = some_le _ (count_of c.before.before.before.before)
 
-cards-from-requires : tie.Need-cards-from-requires invariant-loop decreases-loop
-cards-from-requires c κs =
-    let i = c.before.before.before.before.loop.i in
-    omega (arith, in_deal i (count_of c.before.before.before) c.pile-start.result c.before.before.before.loop-test.true (fits c.before.before.before) c.pile-start.ensures)
+cards_from-mask-requires : tie.Need-cards_from-mask-requires invariant-loop-i decreases-loop-i
+cards_from-mask-requires c κs =
+    let i = c.loop-i.i in
+    omega (arith, in_deal i (count_of c.before.before.before.before) c.pile_start.result c.loop-i-test.true (fits c.before.before.before.before) c.pile_start.ensures)
 
-add-i : tie.Need-overflow-add-i invariant-loop decreases-loop
-add-i c = search rules
+overflow_add-i : tie.Need-overflow_add-i invariant-loop-i decreases-loop-i
+overflow_add-i c = search rules
 
-loop-less : tie.Need-loop-smaller invariant-loop decreases-loop
-loop-less c = search rules
+loop-i-smaller : tie.Need-loop-i-smaller invariant-loop-i decreases-loop-i
+loop-i-smaller c = search rules
 
-loop-again : tie.Need-loop-preserved invariant-loop decreases-loop
-loop-again c =
-    let b = c.before.before.before.before.before in
-    let n = count_of c.before.before.before.before in
-    (omega arith, rw b.loop.invariant.1 (fronts_step b.before.args.deal.now (λ j. get_or b.before.args.counts.now j 0 - 1) b.loop.i c.before.pile-start.result (n - bool_byte (ltb 0 n)) c.cards-from.result b.before.requires.0 (omega arith) (omega (arith, fits c.before.before.before.before)) c.before.pile-start.ensures (less_one n) c.cards-from.ensures))
+loop-i-preserved : tie.Need-loop-i-preserved invariant-loop-i decreases-loop-i
+loop-i-preserved c =
+    let b = c.before in
+    let n = count_of c.before.before.before.before.before in
+    (omega arith, rw b.loop-i.invariant.1 (fronts_step b.args.deal.now (λ j. get_or b.args.counts.now j 0 - 1) b.loop-i.i c.pile_start.result (n - bool_byte (ltb 0 n)) c.cards_from-mask.result b.requires.0 (omega arith) (omega (arith, fits c.before.before.before.before.before)) c.pile_start.ensures (less_one n) c.cards_from-mask.ensures))
 
-returns : tie.Need-returns invariant-loop decreases-loop
+returns : tie.Need-returns invariant-loop-i decreases-loop-i
 unfolding buried_in
 returns c =
-    let e : c.before.loop.i ≡ 7 = omega arith in
-    rw e at c.before.loop.invariant.1
+    let e : c.loop-i.i ≡ 7 = omega arith in
+    rw e at c.loop-i.invariant.1
 
-pub buried-mask-spec : {M : Type 1} → statement M
-buried-mask-spec =
+pub buried_mask_spec : {M : Type 1} → statement M
+buried_mask_spec =
     tie.close
     (tie.spec
-    invariant-loop
-    decreases-loop
-    loop-holds
-    element-copy-out-n
-    cast-n
-    cast-head
-    pile-start-requires
-    cast-cards-from
-    sub-cards-from
-    cards-from-requires
-    add-i
-    loop-less
-    loop-again
+    invariant-loop-i
+    decreases-loop-i
+    loop-i-init
+    bounds-counts-i
+    overflow_cast-n
+    overflow_cast-head
+    pile_start-requires
+    overflow_cast-pile_start
+    overflow_sub-n
+    cards_from-mask-requires
+    overflow_add-i
+    loop-i-smaller
+    loop-i-preserved
     returns)

@@ -10,18 +10,23 @@ use Rattle.hidden_masks.proofs.Locked.{locked_both}
 use Rattle.hidden_masks.proofs.locked_mask.Statement.{statement}
 use Rattle.hidden_masks.proofs.locked_mask.Tie as tie
 
-buried-mask-requires : tie.Need-buried-mask-requires
-buried-mask-requires c κs = search rules
+buried_mask-requires : tie.Need-buried_mask-requires
+buried_mask-requires c κs = search rules
 
-head-mask-requires : tie.Need-head-mask-requires
-head-mask-requires c κs = search rules
+head_mask-requires : tie.Need-head_mask-requires
+head_mask-requires c κs = search rules
 
 returns : tie.Need-returns
 returns c =
-    let a = c.before.before.args in
-    ap₂ bit_or c.before.buried-mask.ensures c.head-mask.ensures
+    let a = c.args in
+    ap₂ bit_or c.buried_mask.ensures c.head_mask.ensures
     ∙ or_masks 52 (buried_in a.deal.now a.counts.now) (head_in a.deal.now a.counts.now)
     ∙ mask_ext 52 _ _ (λ x l. locked_both a.deal.now a.counts.now x)
 
-pub locked-mask-spec : {M : Type 1} → statement M
-locked-mask-spec = tie.close (tie.spec buried-mask-requires head-mask-requires returns)
+pub locked_mask_spec : {M : Type 1} → statement M
+locked_mask_spec =
+    tie.close
+    (tie.spec
+    buried_mask-requires
+    head_mask-requires
+    returns)

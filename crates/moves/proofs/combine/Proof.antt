@@ -6,22 +6,13 @@ use Rattle.moves.proofs.Sized.{sized, each}
 use Rattle.moves.proofs.combine.Statement.{statement}
 use Rattle.moves.proofs.combine.Tie as tie
 
--- ---- the way back over the ten masks that are read
-
-abbrev half : tie.After-struct_known-10-1 → tie.After-struct_known-5-1
-half c = c.before.before.before.before.before
-
-abbrev begun : tie.After-struct_known-5-1 → tie.Start
-begun c = c.before.before.before.before.before
-
 returns : tie.Need-returns
 unfolding mask_by_mask combined
 returns c =
-    let s = begun (half c) in
-    let m = s.args.m in
-    let n = s.args.other in
-    let a = sized m _ s.good.0 in
-    let b = sized n _ s.good.1.0 in
+    let m = c.args.m in
+    let n = c.args.other in
+    let a = sized m _ c.well_formed.0 in
+    let b = sized n _ c.well_formed.1.0 in
     each (or_is m.reveal n.reveal a.reveal b.reveal) (or_is m.pile_stack n.pile_stack a.pile_stack b.pile_stack) (or_is m.deck_pile n.deck_pile a.deck_pile b.deck_pile) (or_is m.deck_stack n.deck_stack a.deck_stack b.deck_stack) (or_is m.stack_pile n.stack_pile a.stack_pile b.stack_pile)
 
 pub combine_spec : {M : Type 1} → statement M

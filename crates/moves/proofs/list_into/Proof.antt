@@ -10,26 +10,6 @@ use borrow.Author.Rules.{rules}
 use Rattle.moves.proofs.list_into.Statement.{statement}
 use Rattle.moves.proofs.list_into.Tie as tie
 
--- ---- the way back from each mask that was written to the one before it, and to what was given
-
-abbrev begun : tie.Else-out-len → tie.Start
-begun c = c.before.before.before
-
-abbrev roomy : tie.After-fill-a → tie.Else-out-len
-roomy c = c.before.before
-
-abbrev first : tie.After-fill-b → tie.After-fill-a
-first c = c.before.before.before.before
-
-abbrev second : tie.After-fill-c → tie.After-fill-b
-second c = c.before.before.before.before
-
-abbrev third : tie.After-fill-d → tie.After-fill-c
-third c = c.before.before.before.before
-
-abbrev fourth : tie.After-fill → tie.After-fill-d
-fourth c = c.before.before.before.before
-
 -- ---- the needs
 
 len-requires : tie.Need-len-requires
@@ -99,20 +79,14 @@ shape_of-out c = search rules
 returns : tie.Need-returns
 unfolding listing
 returns c =
-    let f5 = c.before in
-    let f4 = fourth f5.before in
-    let f3 = third f4 in
-    let f2 = second f3 in
-    let f1 = first f2 in
-    let s = begun (roomy f1) in
-    let m = s.args.m in
-    let o = s.args.out.now in
-    let w1 = more 4 m.reveal f1.fill-a.last.1.1.0 f1.fill-a.result s.pre.reveal (none o) f1.fill-a.ensures in
-    let w2 = more 1 m.pile_stack f2.fill-b.last.1.1.0 f2.fill-b.result s.pre.pile_stack w1 f2.fill-b.ensures in
-    let w3 = more 2 m.deck_pile f3.fill-c.last.1.1.0 f3.fill-c.result s.pre.deck_pile w2 f3.fill-c.ensures in
-    let w4 = more 0 m.deck_stack f4.fill-d.last.1.1.0 f4.fill-d.result s.pre.deck_stack w3 f4.fill-d.ensures in
-    let w5 = more 3 m.stack_pile f5.fill.new.1.1.0 f5.fill.result s.pre.stack_pile w4 f5.fill.ensures in
-    all_written m s.pre o _ _ (omega arith) w5
+    let m = c.args.m in
+    let o = c.args.out.now in
+    let w1 = more 4 m.reveal c.fill-a.new.out c.fill-a.result c.requires.reveal (none o) c.fill-a.ensures in
+    let w2 = more 1 m.pile_stack c.fill-b.new.out c.fill-b.result c.requires.pile_stack w1 c.fill-b.ensures in
+    let w3 = more 2 m.deck_pile c.fill-c.new.out c.fill-c.result c.requires.deck_pile w2 c.fill-c.ensures in
+    let w4 = more 0 m.deck_stack c.fill-d.new.out c.fill-d.result c.requires.deck_stack w3 c.fill-d.ensures in
+    let w5 = more 3 m.stack_pile c.fill.new.out c.fill.result c.requires.stack_pile w4 c.fill.ensures in
+    all_written m c.requires o _ _ (omega arith) w5
 
 pub list_into_spec : {M : Type 1} → statement M
 list_into_spec =

@@ -10,26 +10,33 @@ use borrow.Author.Rules.{rules}
 use Rattle.stack.proofs.pop.Statement.{statement}
 use Rattle.stack.proofs.pop.Tie as tie
 
-array-read-h : tie.Need-array-read-h
-array-read-h c = search rules
+bounds-heights-suit : tie.Need-bounds-heights-suit
+bounds-heights-suit c = search rules
 
-sub-heights : tie.Need-overflow-sub-heights
-sub-heights c = search rules
+overflow_sub-heights : tie.Need-overflow_sub-heights
+overflow_sub-heights c = search rules
 
-array-write-heights : tie.Need-array-write-heights
-array-write-heights c = search rules
+bounds-heights-suit-then-h-gt0 : tie.Need-bounds-heights-suit-then-h-gt0
+bounds-heights-suit-then-h-gt0 c = search rules
 
-returns : tie.Need-returns
+returns-then-h-gt0 : tie.Need-returns-then-h-gt0
 unfolding lowered_on
-returns c = refl
+returns-then-h-gt0 c = refl
 
-returns-2 : tie.Need-returns-2
+returns-else-h-gt0 : tie.Need-returns-else-h-gt0
 unfolding lowered_on
-returns-2 c =
-    let h = c.before.args.t1 in
-    let s = c.before.args.suit in
+returns-else-h-gt0 c =
+    let h = c.args.heights in
+    let s = c.args.suit in
     let e : get_or h s 0 ≡ get_or h s 0 - 1 = omega arith in
     sym (set-get_or h s 0) ∙ ap (set h s) e
 
 pub pop_spec : {M : Type 1} → statement M
-pop_spec = tie.close (tie.spec array-read-h sub-heights array-write-heights returns returns-2)
+pop_spec =
+    tie.close
+    (tie.spec
+    bounds-heights-suit
+    overflow_sub-heights
+    bounds-heights-suit-then-h-gt0
+    returns-then-h-gt0
+    returns-else-h-gt0)

@@ -12,28 +12,35 @@ use borrow.Author.Rules.{rules}
 use Rattle.stack.proofs.push.Statement.{statement}
 use Rattle.stack.proofs.push.Tie as tie
 
-array-read-h : tie.Need-array-read-h
-array-read-h c = search rules
+bounds-heights-suit : tie.Need-bounds-heights-suit
+bounds-heights-suit c = search rules
 
-add-heights : tie.Need-overflow-add-heights
-add-heights c = search rules
+overflow_add-heights : tie.Need-overflow_add-heights
+overflow_add-heights c = search rules
 
-array-write-heights : tie.Need-array-write-heights
-array-write-heights c = search rules
+bounds-heights-suit-then-h-lt255 : tie.Need-bounds-heights-suit-then-h-lt255
+bounds-heights-suit-then-h-lt255 c = search rules
 
-returns : tie.Need-returns
+returns-then-h-lt255 : tie.Need-returns-then-h-lt255
 unfolding pushed_on
-returns c =
-    ap (set c.before.args.t1 c.before.args.suit) (omega arith)
+returns-then-h-lt255 c =
+    ap (set c.args.heights c.args.suit) (omega arith)
 
-returns-2 : tie.Need-returns-2
+returns-else-h-lt255 : tie.Need-returns-else-h-lt255
 unfolding pushed_on
-returns-2 c =
-    let h = c.before.args.t1 in
-    let s = c.before.args.suit in
+returns-else-h-lt255 c =
+    let h = c.args.heights in
+    let s = c.args.suit in
     let b : Fits w8 (get_or h s 0) = search rules in
     let e : get_or h s 0 ≡ min (get_or h s 0 + 1) 255 = omega arith in
     sym (set-get_or h s 0) ∙ ap (set h s) e
 
 pub push_spec : {M : Type 1} → statement M
-push_spec = tie.close (tie.spec array-read-h add-heights array-write-heights returns returns-2)
+push_spec =
+    tie.close
+    (tie.spec
+    bounds-heights-suit
+    overflow_add-heights
+    bounds-heights-suit-then-h-lt255
+    returns-then-h-lt255
+    returns-else-h-lt255)

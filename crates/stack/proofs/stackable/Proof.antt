@@ -13,15 +13,22 @@ rank-requires c κs = search rules
 suit-requires : tie.Need-suit-requires
 suit-requires c κs = search rules
 
-cast-result : tie.Need-overflow-cast-result
-cast-result c = search rules
+overflow_cast-result : tie.Need-overflow_cast-result
+overflow_cast-result c = search rules
 
-array-read-result : tie.Need-array-read-result
-array-read-result c = omega (arith, c.suit.ensures, suit_low c.before.before.args.card)
+bounds-heights-suit : tie.Need-bounds-heights-suit
+bounds-heights-suit c = omega (arith, c.suit.ensures, suit_low c.args.card)
 
 returns : tie.Need-returns
 unfolding next_on
-returns c = rw (c.suit.ensures, c.before.rank.ensures)
+returns c = rw (c.suit.ensures, c.rank.ensures)
 
-pub stackable-spec : {M : Type 1} → statement M
-stackable-spec = tie.close (tie.spec rank-requires suit-requires cast-result array-read-result returns)
+pub stackable_spec : {M : Type 1} → statement M
+stackable_spec =
+    tie.close
+    (tie.spec
+    rank-requires
+    suit-requires
+    overflow_cast-result
+    bounds-heights-suit
+    returns)
