@@ -1,8 +1,9 @@
 -- `hidden::find_at` meets its contract.
 -- Assumes nothing.
 use borrow.Author.Rules.{rules}
+use Rattle.std.proofs.Common.{eq-eqb}
+use Rattle.std.proofs.lemmas.Bool.{ne_eqb}
 use mathlib.Core.Bool.{true}
-use mathlib.Core.Logic.{⊎_elim}
 use mathlib.Core.Path.{◌≡◌, sym, ◌∙◌}
 use Prim.Native.Nat.{ℕ, ◌+◌, ◌-◌, ◌≤◌, ◌<◌}
 use native.Mathlib.Omega.{arith}
@@ -15,6 +16,7 @@ use Rattle.hidden_masks.proofs.Collected.{in_deal}
 use Rattle.hidden.proofs.Found.{card_there, other_card, no_place, place_fits, place_some}
 use Rattle.hidden.proofs.find_at.Statement.{statement}
 use Rattle.hidden.proofs.find_at.Tie as tie
+use Rattle.hidden.proofs.find_at.Lts.{else-has_place-via-then-has_place+else-deal-pile_start, else-has_place-via-else-has_place}
 
 abbrev invariant-loop-i : tie.invariant-loop-i
 invariant-loop-i deal counts up card i₀ i = (i ≤ 7) × ((k : ℕ) → k < i → stands_at deal counts up card k ≡ true → ⊥)
@@ -33,8 +35,8 @@ fits c = omega (arith, c.requires.0 c.loop-i.i c.loop-i-test.true, c.requires.1)
 there : (c : tie.After-pile_start invariant-loop-i decreases-loop-i) → (0 < place_of c.before.before.before.before.before) × (c.pile_start.result + place_of c.before.before.before.before.before ≤ 52)
 there c =
     let b = c.before in
-    let h = sym c.has_place.ensures ∙ c.else-has_place.true in
-    (place_some (place_of b) b.loop-i.i h, in_deal b.loop-i.i (place_of b) c.pile_start.result b.loop-i-test.true (place_fits (place_of b) b.loop-i.i h) c.pile_start.ensures)
+    let h = sym c.has_place.ensures ∙ c.if-has_place.true in
+    (place_some (place_of b.before.before.before.before) b.loop-i.i h, in_deal b.loop-i.i (place_of b.before.before.before.before) c.pile_start.result b.loop-i-test.true (place_fits (place_of b.before.before.before.before) b.loop-i.i h) c.pile_start.ensures)
 
 loop-i-init : tie.Need-loop-i-init invariant-loop-i decreases-loop-i
 loop-i-init c = search rules
@@ -64,7 +66,7 @@ overflow_sub-pile_start : tie.Need-overflow_sub-pile_start invariant-loop-i decr
 overflow_sub-pile_start c = omega (arith, (there c).0)
 
 bounds-deal-pile_start : tie.Need-bounds-deal-pile_start invariant-loop-i decreases-loop-i
-bounds-deal-pile_start c = omega (arith, (there c).1)
+bounds-deal-pile_start c = omega (arith, (there c.before).1)
 
 returns-then-deal-pile_start : tie.Need-returns-then-deal-pile_start invariant-loop-i decreases-loop-i
 returns-then-deal-pile_start c =
@@ -73,9 +75,9 @@ returns-then-deal-pile_start c =
     let i = b.loop-i.i in
     let m = place_of b.before.before.before.before.before.before.before in
     let s = c.pile_start.result in
-    let k : s + m - 1 ≡ pile_start i + (m - 1) = omega (arith, c.pile_start.ensures, (there c.before).0) in
+    let k : s + m - 1 ≡ pile_start i + (m - 1) = omega (arith, c.pile_start.ensures, (there c.before.before.before).0) in
     sym (first_at 7 (λ j. stands_at a.deal.now a.counts.now a.up a.card j) i b.loop-i-test.true b.loop-i.invariant.1
-    (card_there a.deal.now a.card (s + m - 1) (pile_start i + (m - 1)) k (has_place m i) (sym c.has_place.ensures ∙ c.else-has_place.true) c.if-deal-pile_start.true))
+    (card_there a.deal.now a.card (s + m - 1) (pile_start i + (m - 1)) k (has_place m i) (sym c.has_place.ensures ∙ c.if-has_place.true) (eq-eqb _ _ c.if-deal-pile_start.true)))
 
 overflow_add-i : tie.Need-overflow_add-i invariant-loop-i decreases-loop-i
 overflow_add-i c = search rules
@@ -91,14 +93,14 @@ loop-i-preserved c =
     let m = place_of b.before.before.before in (
       omega arith,
       below_more _ _ b.loop-i.invariant.1
-          (⊎_elim
-          (λ w.
-          let s = w.1.result in
-          let h = sym c.has_place.ensures ∙ w.0.taken in
-          let k : s + m - 1 ≡ pile_start i + (m - 1) = omega (arith, w.1.ensures, place_some m i h) in
-          other_card a.deal.now a.card (s + m - 1) (pile_start i + (m - 1)) k (has_place m i) w.3.left)
-          (λ w. no_place (has_place m i) _ (sym c.has_place.ensures ∙ w.left))
-          c.else-has_place.branch),
+          (elim c.else-has_place.branch [
+            else-has_place-via-then-has_place+else-deal-pile_start w ↦
+              let s = w.pile_start.result in
+              let h = sym c.has_place.ensures ∙ w.if-has_place.true in
+              let k : s + m - 1 ≡ pile_start i + (m - 1) = omega (arith, w.pile_start.ensures, place_some m i h) in
+              other_card a.deal.now a.card (s + m - 1) (pile_start i + (m - 1)) k (has_place m i) (ne_eqb _ _ w.if-deal-pile_start.false)
+          | else-has_place-via-else-has_place w ↦ no_place (has_place m i) _ (sym c.has_place.ensures ∙ w.if-has_place.false)
+          ]),
     )
 
 returns : tie.Need-returns invariant-loop-i decreases-loop-i
