@@ -9,35 +9,35 @@ use Rattle.code.specs.Resuming.{fields_of}
 use Rattle.code.proofs.fields_of.Statement.{statement}
 use Rattle.code.proofs.fields_of.Tie as tie
 
-cast-t3 : tie.Need-overflow-cast-t3
-cast-t3 c = omega (arith, and_le_r c.args.code 65535)
+overflow_cast-result : tie.Need-overflow_cast-result
+overflow_cast-result c = omega (arith, and_le_r c.args.code 65535)
 
-cast-t4 : tie.Need-overflow-cast-t4
-cast-t4 c = search rules
+overflow_cast-result-2 : tie.Need-overflow_cast-result-2
+overflow_cast-result-2 c = search rules
 
-shr-t5 : tie.Need-overflow-shr-t5
-shr-t5 c = search rules
+overflow_shr-result : tie.Need-overflow_shr-result
+overflow_shr-result c = search rules
 
-cast-t7 : tie.Need-overflow-cast-t7
-cast-t7 c = omega (arith, and_le_r (c.args.code / 65536) 65535)
+overflow_cast-result-3 : tie.Need-overflow_cast-result-3
+overflow_cast-result-3 c = omega (arith, and_le_r (c.args.code / 65536) 65535)
 
-cast-t8 : tie.Need-overflow-cast-t8
-cast-t8 c = search rules
+overflow_cast-result-4 : tie.Need-overflow_cast-result-4
+overflow_cast-result-4 c = search rules
 
-shr-t9 : tie.Need-overflow-shr-t9
-shr-t9 c = search rules
+overflow_shr-result-2 : tie.Need-overflow_shr-result-2
+overflow_shr-result-2 c = search rules
 
-cast-t11 : tie.Need-overflow-cast-t11
-cast-t11 c = omega (arith, and_le_r (c.args.code / 4294967296) 16777215)
+overflow_cast-result-5 : tie.Need-overflow_cast-result-5
+overflow_cast-result-5 c = omega (arith, and_le_r (c.args.code / 4294967296) 16777215)
 
-cast-t12 : tie.Need-overflow-cast-t12
-cast-t12 c = search rules
+overflow_cast-result-6 : tie.Need-overflow_cast-result-6
+overflow_cast-result-6 c = search rules
 
-shr-t13 : tie.Need-overflow-shr-t13
-shr-t13 c = search rules
+overflow_shr-result-3 : tie.Need-overflow_shr-result-3
+overflow_shr-result-3 c = search rules
 
-cast-t14 : tie.Need-overflow-cast-t14
-cast-t14 c = search rules
+overflow_cast-result-7 : tie.Need-overflow_cast-result-7
+overflow_cast-result-7 c = search rules
 
 returns : tie.Need-returns
 unfolding fields_of code_piles code_offset
@@ -45,18 +45,18 @@ returns c =
     let x = c.args.code in
     λ i. record { heights = and_mask x 16 i; piles = and_mask (x / 2 ^ 16) 16 i; deck = and_mask (x / 2 ^ 32) 24 i; offset = code_offset x }
 
-pub fields-of-spec : {M : Type 1} → statement M
-fields-of-spec =
+pub fields_of_spec : {M : Type 1} → statement M
+fields_of_spec =
     tie.close
     (tie.spec
-    cast-t3
-    cast-t4
-    shr-t5
-    cast-t7
-    cast-t8
-    shr-t9
-    cast-t11
-    cast-t12
-    shr-t13
-    cast-t14
+    overflow_cast-result
+    overflow_cast-result-2
+    overflow_shr-result
+    overflow_cast-result-3
+    overflow_cast-result-4
+    overflow_shr-result-2
+    overflow_cast-result-5
+    overflow_cast-result-6
+    overflow_shr-result-3
+    overflow_cast-result-7
     returns)

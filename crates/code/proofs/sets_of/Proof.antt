@@ -15,59 +15,59 @@ use Rattle.rules.specs.Foundations.{stacked_on}
 
 -- ---- the way back from each place to the one before it
 
-abbrev begun : tie.After-heights2 → tie.Start
+abbrev begun : tie.After-heights-2-1 → tie.Start
 begun c = c.before.before.before.before.before
 
-abbrev founded : tie.After-deck2 → tie.After-foundation-mask
+abbrev founded : tie.After-deck-2-1 → tie.After-foundation_mask
 founded c = c.before
 
-abbrev drawn : tie.After-buried-mask → tie.After-cards-from
+abbrev drawn : tie.After-buried_mask → tie.After-cards_from
 drawn c = c.before.before.before
 
-abbrev buried : tie.After-head-mask → tie.After-buried-mask
+abbrev buried : tie.After-head_mask → tie.After-buried_mask
 buried c = c.before.before.before
 
-abbrev of-deck : tie.After-deck2 → tie.Start
+abbrev of-deck : tie.After-deck-2-1 → tie.Start
 of-deck c = begun (founded c).before
 
 -- ---- the needs
 
-foundation-mask-requires : tie.Need-foundation-mask-requires
-foundation-mask-requires c κs = search rules
+foundation_mask-requires : tie.Need-foundation_mask-requires
+foundation_mask-requires c κs = search rules
 
-slice-aggregate-cards-from : tie.Need-slice-aggregate-cards-from
-slice-aggregate-cards-from c = search rules
+slice_bounds-cards_from-end : tie.Need-slice_bounds-cards_from-end
+slice_bounds-cards_from-end c = search rules
 
-cast-cards-from : tie.Need-overflow-cast-cards-from
-cast-cards-from c = search rules
+overflow_cast-left : tie.Need-overflow_cast-left
+overflow_cast-left c = search rules
 
-cards-from-requires : tie.Need-cards-from-requires
-cards-from-requires c κs =
+cards_from-requires : tie.Need-cards_from-requires
+cards_from-requires c κs =
     let b = of-deck c in
-    omega (arith, b.pre.left, (shape b.args.p _ b.good.0).deck)
+    omega (arith, b.requires.left, (shape b.args.p _ b.well_formed.0).deck)
 
-buried-mask-requires : tie.Need-buried-mask-requires
-buried-mask-requires c κs = search rules
+buried_mask-requires : tie.Need-buried_mask-requires
+buried_mask-requires c κs = search rules
 
-head-mask-requires : tie.Need-head-mask-requires
-head-mask-requires c κs = search rules
+head_mask-requires : tie.Need-head_mask-requires
+head_mask-requires c κs = search rules
 
 returns : tie.Need-returns
 unfolding sets_of stacked_on in_deck buried_in head_in
 returns c =
     let k = drawn (buried c) in
     let b = of-deck k.before in
-    let d : k.cards-from.result ≡ mask_of 52 (in_deck b.args.p) = k.cards-from.ensures ∙ cards_are b.args.p.deck b.args.p.left b.pre.deck in
-    cc ((founded k.before).foundation-mask.ensures, d, (buried c).buried-mask.ensures, c.head-mask.ensures)
+    let d : k.cards_from.result ≡ mask_of 52 (in_deck b.args.p) = k.cards_from.ensures ∙ cards_are b.args.p.deck b.args.p.left b.requires.deck in
+    cc ((founded k.before).foundation_mask.ensures, d, (buried c).buried_mask.ensures, c.head_mask.ensures)
 
-pub sets-of-spec : {M : Type 1} → statement M
-sets-of-spec =
+pub sets_of_spec : {M : Type 1} → statement M
+sets_of_spec =
     tie.close
     (tie.spec
-    foundation-mask-requires
-    slice-aggregate-cards-from
-    cast-cards-from
-    cards-from-requires
-    buried-mask-requires
-    head-mask-requires
+    foundation_mask-requires
+    slice_bounds-cards_from-end
+    overflow_cast-left
+    cards_from-requires
+    buried_mask-requires
+    head_mask-requires
     returns)

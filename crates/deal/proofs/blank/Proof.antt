@@ -7,5 +7,8 @@ use Rattle.deal.proofs.blank.Tie as tie
 returns : tie.Need-returns
 returns c = refl
 
-pub blank-spec : {M : Type 1} → statement M
-blank-spec = tie.close (tie.spec returns)
+pub blank_spec : {M : Type 1} → statement M
+blank_spec =
+    tie.close
+    (tie.spec
+    returns)

@@ -15,46 +15,46 @@ use Rattle.deal.proofs.deal.Statement.{statement}
 use Rattle.deal.proofs.deal.Tie as tie
 
 -- the way back to what was given
-abbrev begun : tie.Else1 → tie.Start
+abbrev begun : tie.Else-wrong-ne-ACCEPTED → tie.Start
 begun c = c.before.before.before
 
 -- a deal that is not refused passes its four tests
-dealt : (c : tie.Else1) → Dealt (begun c).args.cards.now (begun c).args.step
-dealt c = deal_passed _ _ (sym c.before.deal-refusal.ensures ∙ c.if1.false)
+dealt : (c : tie.Else-wrong-ne-ACCEPTED) → Dealt (begun c).args.cards.now (begun c).args.step
+dealt c = deal_passed _ _ (sym c.deal_refusal-wrong.ensures ∙ c.if-wrong-ne-ACCEPTED.false)
 
-deal-refusal-requires : tie.Need-deal-refusal-requires
-deal-refusal-requires c κs = search rules
+deal_refusal-wrong-requires : tie.Need-deal_refusal-wrong-requires
+deal_refusal-wrong-requires c κs = search rules
 
 refused-requires : tie.Need-refused-requires
 refused-requires c κs = search rules
 
+returns-then-wrong-ne-ACCEPTED : tie.Need-returns-then-wrong-ne-ACCEPTED
+unfolding deal_answer
+returns-then-wrong-ne-ACCEPTED c =
+    let b = c.before in
+    c.refused.ensures ∙ is_refused _ _ _ b.deal_refusal-wrong.ensures c.if-wrong-ne-ACCEPTED.true
+
+as_deal-requires : tie.Need-as_deal-requires
+as_deal-requires c κs = (dealt c).long
+
+fresh-requires : tie.Need-fresh-requires
+fresh-requires c κs k l = omega (arith, ap (λ (d : List ℕ). get_or d k 0) c.as_deal.ensures, cards_low _ (dealt c.before).cards k l)
+
 returns : tie.Need-returns
 unfolding deal_answer
 returns c =
-    let b = c.before.before in
-    c.refused.ensures ∙ is_refused _ _ _ b.deal-refusal.ensures c.before.if1.true
+    let b = c.before in
+    let s = (begun b.before).args in
+    is_started (deal_refusal s.cards.now s.step) (fresh s.cards.now s.step) _ (sym b.deal_refusal-wrong.ensures ∙ b.if-wrong-ne-ACCEPTED.false)
+    (c.fresh.ensures ∙ ap (λ (d : List ℕ). fresh d s.step) c.as_deal.ensures)
 
-as-deal-requires : tie.Need-as-deal-requires
-as-deal-requires c κs = (dealt c).long
-
-fresh-requires : tie.Need-fresh-requires
-fresh-requires c κs k l = omega (arith, ap (λ (d : List ℕ). get_or d k 0) c.as-deal.ensures, cards_low _ (dealt c.before).cards k l)
-
-returns-2 : tie.Need-returns-2
-unfolding deal_answer
-returns-2 c =
-    let b = c.before.before in
-    let s = (begun b).args in
-    is_started (deal_refusal s.cards.now s.step) (fresh s.cards.now s.step) _ (sym b.before.deal-refusal.ensures ∙ b.if1.false)
-    (c.fresh.ensures ∙ ap (λ (d : List ℕ). fresh d s.step) c.before.as-deal.ensures)
-
-pub deal-spec : {M : Type 1} → statement M
-deal-spec =
+pub deal_spec : {M : Type 1} → statement M
+deal_spec =
     tie.close
     (tie.spec
-    deal-refusal-requires
+    deal_refusal-wrong-requires
     refused-requires
-    returns
-    as-deal-requires
+    returns-then-wrong-ne-ACCEPTED
+    as_deal-requires
     fresh-requires
-    returns-2)
+    returns)

@@ -12,25 +12,31 @@ use Rattle.deal.proofs.fresh.Tie as tie
 abbrev begun : tie.After-stock → tie.Start
 begun c = c.before.before
 
-abbrev stocked : tie.After-counts → tie.After-stock
+abbrev stocked : tie.After-counts-1 → tie.After-stock
 stocked c = c.before.before
 
-deal-long : (c : tie.Start) → length c.args.t2 ≡ 52
+deal-long : (c : tie.Start) → length c.args.deal ≡ 52
 deal-long c = search rules
 
 -- ---- the needs
 
-slice-aggregate-stock : tie.Need-slice-aggregate-stock
-slice-aggregate-stock c = search rules
+slice_bounds-stock-end : tie.Need-slice_bounds-stock-end
+slice_bounds-stock-end c = search rules
 
 stock-requires : tie.Need-stock-requires
 stock-requires c κs = search rules
 
-head-mask-requires : tie.Need-head-mask-requires
-head-mask-requires c κs = ((begun (stocked c)).requires, whole_fits)
+head_mask-requires : tie.Need-head_mask-requires
+head_mask-requires c κs = ((begun (stocked c)).requires, whole_fits)
 
 returns : tie.Need-returns
-returns c = let k = stocked c.before in fresh_made _ _ _ _ (deal-long (begun k)) k.stock.ensures c.head-mask.ensures
+returns c = let k = stocked c.before in fresh_made _ _ _ _ (deal-long (begun k)) k.stock.ensures c.head_mask.ensures
 
-pub fresh-spec : {M : Type 1} → statement M
-fresh-spec = tie.close (tie.spec slice-aggregate-stock stock-requires head-mask-requires returns)
+pub fresh_spec : {M : Type 1} → statement M
+fresh_spec =
+    tie.close
+    (tie.spec
+    slice_bounds-stock-end
+    stock-requires
+    head_mask-requires
+    returns)

@@ -12,5 +12,9 @@ returns : tie.Need-returns
 unfolding refused_by
 returns c = cc
 
-pub refused-spec : {M : Type 1} → statement M
-refused-spec = tie.close (tie.spec blank-requires returns)
+pub refused_spec : {M : Type 1} → statement M
+refused_spec =
+    tie.close
+    (tie.spec
+    blank-requires
+    returns)

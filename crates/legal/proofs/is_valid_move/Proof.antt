@@ -17,21 +17,27 @@ use Rattle.legal.proofs.is_valid_move.Tie as tie
 masks-requires : tie.Need-masks-requires
 masks-requires c κs = search rules
 
-of-kind-requires : tie.Need-of-kind-requires
-of-kind-requires c κs = search rules
+of_kind-requires : tie.Need-of_kind-requires
+of_kind-requires c κs = search rules
 
-shr-result : tie.Need-overflow-shr-result
-shr-result c = search rules
+overflow_shr-result : tie.Need-overflow_shr-result
+overflow_shr-result c = search rules
 
 returns : tie.Need-returns
 returns c =
-    let p = c.before.before.args.p in
-    let kind = c.before.before.args.kind in
-    let card = c.before.before.args.card in
-    ap (λ (x : ℕ). eqb x 1) (has_shr c.of-kind.result card)
-    ∙ either (λ (b : Bool). eqb (num b) 1 ≡ b) refl refl (bit c.of-kind.result card)
-    ∙ ap (λ (m : ℕ). bit m card) (c.of-kind.ensures ∙ ap (λ (m : Masks). of_kind m kind) c.before.masks.ensures)
-    ∙ bit_legal p kind card c.before.before.requires.1 c.before.before.requires.2
+    let p = c.args.p in
+    let kind = c.args.kind in
+    let card = c.args.card in
+    ap (λ (x : ℕ). eqb x 1) (has_shr c.of_kind.result card)
+    ∙ either (λ (b : Bool). eqb (num b) 1 ≡ b) refl refl (bit c.of_kind.result card)
+    ∙ ap (λ (m : ℕ). bit m card) (c.of_kind.ensures ∙ ap (λ (m : Masks). of_kind m kind) c.masks.ensures)
+    ∙ bit_legal p kind card c.requires.1 c.requires.2
 
-pub is-valid-move-spec : {M : Type 1} → statement M
-is-valid-move-spec = tie.close (tie.spec masks-requires of-kind-requires shr-result returns)
+pub is_valid_move_spec : {M : Type 1} → statement M
+is_valid_move_spec =
+    tie.close
+    (tie.spec
+    masks-requires
+    of_kind-requires
+    overflow_shr-result
+    returns)

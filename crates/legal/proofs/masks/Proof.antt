@@ -15,50 +15,56 @@ use Rattle.legal.proofs.masks.Tie as tie
 
 -- ---- the way back from the end to the deck's mask, and to the position
 
-abbrev looked : tie.After-compute-mask → tie.After-look
+abbrev looked : tie.After-compute_mask-deck_mask → tie.After-look-s
 looked c = c.before.before
 
-abbrev read : tie.After-struct-known6 → tie.After-struct-known3
+abbrev read : tie.After-struct_known-6-1 → tie.After-struct_known-3-1
 read c = c.before.before.before
 
-abbrev drawn : tie.After-struct-known3 → tie.After-compute-mask
+abbrev drawn : tie.After-struct_known-3-1 → tie.After-compute_mask-deck_mask
 drawn c = c.before.before.before
 
 -- ---- the needs
 
-heads-requires : tie.Need-heads-requires
-heads-requires c κs = search rules
+heads-heads-requires : tie.Need-heads-heads-requires
+heads-heads-requires c κs = search rules
 
-look-requires : tie.Need-look-requires
-look-requires c κs = (c.before.requires, c.heads.ensures.0, c.heads.ensures.1)
+look-s-requires : tie.Need-look-s-requires
+look-s-requires c κs = (c.requires, c.heads-heads.ensures.0, c.heads-heads.ensures.1)
 
-room-mask-requires : tie.Need-room-mask-requires
+room_mask-free_slot-requires : tie.Need-room_mask-free_slot-requires
 unfolding sight
-room-mask-requires c κs = (c.before.before.requires, ap (λ (s : Sight). s.locked) c.look.ensures, ap (λ (s : Sight). s.bm) c.look.ensures)
+room_mask-free_slot-requires c κs = (c.requires, ap (λ (s : Sight). s.locked) c.look-s.ensures, ap (λ (s : Sight). s.bm) c.look-s.ensures)
 
-compute-mask-requires : tie.Need-compute-mask-requires
-compute-mask-requires c κs = search rules
+compute_mask-deck_mask-requires : tie.Need-compute_mask-deck_mask-requires
+compute_mask-deck_mask-requires c κs = search rules
 
-swap-pair-requires : tie.Need-swap-pair-requires
-swap-pair-requires c κs = search rules
+swap_pair-requires : tie.Need-swap_pair-requires
+swap_pair-requires c κs = search rules
 
 returns : tie.Need-returns
 unfolding code sight
 returns c =
     let k = drawn (read c.before) in
-    let b = (looked k).before.before in
+    let b = (looked k).before in
     let p = b.args.p in
-    let e = (looked k).look.ensures in
-    let room = k.before.room-mask.result in
-    let dm = k.compute-mask.result in
-    let sw = c.swap-pair.result in
+    let e = (looked k).look-s.ensures in
+    let room = k.room_mask-free_slot.result in
+    let dm = k.compute_mask-deck_mask.result in
+    let sw = c.swap_pair.result in
     ap (λ (s : Sight). code s room dm sw) e
-    ∙ ap (λ (r : ℕ). code (sight p) r dm sw) k.before.room-mask.ensures
-    ∙ ap (λ (d : ℕ). code (sight p) (mask_of 52 (has_room p)) d sw) k.compute-mask.ensures
-    ∙ ap (λ (w : ℕ). code (sight p) (mask_of 52 (has_room p)) (mask_of 52 (available p)) w) (c.swap-pair.ensures ∙ ap (λ (s : Sight). mask_of 64 (λ j. bit (s.sm / 16) (twin j))) e)
-    ∙ code_is p b.pre
+    ∙ ap (λ (r : ℕ). code (sight p) r dm sw) k.room_mask-free_slot.ensures
+    ∙ ap (λ (d : ℕ). code (sight p) (mask_of 52 (has_room p)) d sw) k.compute_mask-deck_mask.ensures
+    ∙ ap (λ (w : ℕ). code (sight p) (mask_of 52 (has_room p)) (mask_of 52 (available p)) w) (c.swap_pair.ensures ∙ ap (λ (s : Sight). mask_of 64 (λ j. bit (s.sm / 16) (twin j))) e)
+    ∙ code_is p b.requires
 
-pub masks-spec : {M : Type 1} → statement M
-masks-spec =
+pub masks_spec : {M : Type 1} → statement M
+masks_spec =
     tie.close
-    (tie.spec heads-requires look-requires room-mask-requires compute-mask-requires swap-pair-requires returns)
+    (tie.spec
+    heads-heads-requires
+    look-s-requires
+    room_mask-free_slot-requires
+    compute_mask-deck_mask-requires
+    swap_pair-requires
+    returns)

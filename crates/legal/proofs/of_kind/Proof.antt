@@ -16,28 +16,35 @@ last-kind (suc (suc zero)) a b c d ds ps dp sp rv = absurd (c refl)
 last-kind (suc (suc (suc zero))) a b c d ds ps dp sp rv = absurd (d refl)
 last-kind (suc (suc (suc (suc n)))) a b c d ds ps dp sp rv = refl
 
-returns : tie.Need-returns
+returns-in-0 : tie.Need-returns-in-0
 unfolding of_kind
-returns c = search rules
+returns-in-0 c = search rules
 
-returns-2 : tie.Need-returns-2
+returns-in-1 : tie.Need-returns-in-1
 unfolding of_kind
-returns-2 c = search rules
+returns-in-1 c = search rules
 
-returns-3 : tie.Need-returns-3
+returns-in-2 : tie.Need-returns-in-2
 unfolding of_kind
-returns-3 c = search rules
+returns-in-2 c = search rules
 
-returns-4 : tie.Need-returns-4
+returns-in-3 : tie.Need-returns-in-3
 unfolding of_kind
-returns-4 c = search rules
+returns-in-3 c = search rules
 
-returns-5 : tie.Need-returns-5
+returns-in_default : tie.Need-returns-in_default
 unfolding of_kind
-returns-5 c =
-    let x = c.match.rest in
-    let m = c.before.args.m in
-    sym (last-kind c.before.args.kind x.0.0.0.1 x.0.0.1 x.0.1 x.1 m.deck_stack m.pile_stack m.deck_pile m.stack_pile m.reveal)
+returns-in_default c =
+    let m = c.args.m in
+    let x = c.in_default.in_default-own.rest in
+    sym (last-kind c.args.kind x.0.0.0.1 x.0.0.1 x.0.1 x.1 m.deck_stack m.pile_stack m.deck_pile m.stack_pile m.reveal)
 
-pub of-kind-spec : {M : Type 1} → statement M
-of-kind-spec = tie.close (tie.spec returns returns-2 returns-3 returns-4 returns-5)
+pub of_kind_spec : {M : Type 1} → statement M
+of_kind_spec =
+    tie.close
+    (tie.spec
+    returns-in-0
+    returns-in-1
+    returns-in-2
+    returns-in-3
+    returns-in_default)

@@ -22,19 +22,23 @@ use Rattle.legal.proofs.open_mask.Tie as tie
 free : (p : Position) → T (proper p) → (heads : ℕ) → heads ≡ mask_of 52 (is_head p) → bit_and p.visible ((2 ^ 64 - 1) - heads) ≡ mask_of 52 (is_free p)
 free p t heads e = ap (λ (m : ℕ). bit_and p.visible ((2 ^ 64 - 1) - m)) e ∙ free_mask p (facts p t)
 
-bottom-mask-requires : tie.Need-bottom-mask-requires
-bottom-mask-requires c κs =
-    let p = c.before.args.p in
-    let f = facts p c.before.requires.0 in
-    (f.visible, λ k l. subst (λ (m : ℕ). pair_of (lower (bit m)) k ≤ pair_of (bit p.visible) k) (sym (free p c.before.requires.0 c.before.args.heads c.before.requires.1)) (ruled p f k l))
+bottom_mask-requires : tie.Need-bottom_mask-requires
+bottom_mask-requires c κs =
+    let p = c.args.p in
+    let f = facts p c.requires.0 in
+    (f.visible, λ k l. subst (λ (m : ℕ). pair_of (lower (bit m)) k ≤ pair_of (bit p.visible) k) (sym (free p c.requires.0 c.args.heads c.requires.1)) (ruled p f k l))
 
 returns : tie.Need-returns
 returns c =
-    let p = c.before.before.args.p in
-    let t = c.before.before.requires.0 in
-    c.bottom-mask.ensures
-    ∙ ap (λ (m : ℕ). mask_of 52 (λ c. ltb (pair_of (lower (bit m)) (c / 2)) (pair_of (bit p.visible) (c / 2)))) (free p t c.before.before.args.heads c.before.before.requires.1)
+    let p = c.args.p in
+    let t = c.requires.0 in
+    c.bottom_mask.ensures
+    ∙ ap (λ (m : ℕ). mask_of 52 (λ c. ltb (pair_of (lower (bit m)) (c / 2)) (pair_of (bit p.visible) (c / 2)))) (free p t c.args.heads c.requires.1)
     ∙ mask_ext 52 (λ c. ltb (pair_of (lower (bit (mask_of 52 (is_free p)))) (c / 2)) (pair_of (bit p.visible) (c / 2))) (λ c. is_open p (pair c)) (open_is p (facts p t))
 
-pub open-mask-spec : {M : Type 1} → statement M
-open-mask-spec = tie.close (tie.spec bottom-mask-requires returns)
+pub open_mask_spec : {M : Type 1} → statement M
+open_mask_spec =
+    tie.close
+    (tie.spec
+    bottom_mask-requires
+    returns)

@@ -16,20 +16,25 @@ count-requires : tie.Need-count-requires
 count-requires c κs = search rules
 
 -- what the count is
-counted : (c : tie.After-count) → c.count.result ≡ heads_and_kings c.before.before.args.p
+counted : (c : tie.After-count) → c.count.result ≡ heads_and_kings c.args.p
 counted c =
-    let p = c.before.before.args.p in
-    c.count.ensures ∙ ap (λ (m : ℕ). count_of 64 (bit (bit_and p.visible (bit_or m 0xF_0000_0000_0000)))) c.before.before.requires.1 ∙ top_count p (facts p c.before.before.requires.0)
+    let p = c.args.p in
+    c.count.ensures ∙ ap (λ (m : ℕ). count_of 64 (bit (bit_and p.visible (bit_or m 0xF_0000_0000_0000)))) c.requires.1 ∙ top_count p (facts p c.requires.0)
+
+returns-then-count-lt-N_COLUMNS : tie.Need-returns-then-count-lt-N_COLUMNS
+returns-then-count-lt-N_COLUMNS c =
+    let s = c.before in
+    ap (λ (m : ℕ). bit_or (m / 16) 0xF_0000_0000_0000) s.requires.2 ∙ room_some s.args.p (facts s.args.p s.requires.0) (omega (arith, counted c.before, c.if-count-lt-N_COLUMNS.true))
 
 returns : tie.Need-returns
 returns c =
-    let s = c.before.before.before in
-    ap (λ (m : ℕ). bit_or (m / 16) 0xF_0000_0000_0000) s.requires.2 ∙ room_some s.args.p (facts s.args.p s.requires.0) (omega (arith, counted c.before, c.if1.true))
+    let s = c.before in
+    ap (λ (m : ℕ). m / 16) s.requires.2 ∙ room_none s.args.p (facts s.args.p s.requires.0) (omega (arith, counted c.before, c.if-count-lt-N_COLUMNS.false))
 
-returns-2 : tie.Need-returns-2
-returns-2 c =
-    let s = c.before.before.before in
-    ap (λ (m : ℕ). m / 16) s.requires.2 ∙ room_none s.args.p (facts s.args.p s.requires.0) (omega (arith, counted c.before, c.if1.false))
-
-pub room-mask-spec : {M : Type 1} → statement M
-room-mask-spec = tie.close (tie.spec count-requires returns returns-2)
+pub room_mask_spec : {M : Type 1} → statement M
+room_mask_spec =
+    tie.close
+    (tie.spec
+    count-requires
+    returns-then-count-lt-N_COLUMNS
+    returns)

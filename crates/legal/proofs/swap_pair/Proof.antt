@@ -13,5 +13,8 @@ returns : tie.Need-returns
 unfolding bit twin
 returns c = blast_mask 64 64 tt tt code tt (λ k. ask 0 (twin k) leaf) tt (env1 c.args.a) (λ i. c.ranges.a.fits)
 
-pub swap-pair-spec : {M : Type 1} → statement M
-swap-pair-spec = tie.close (tie.spec returns)
+pub swap_pair_spec : {M : Type 1} → statement M
+swap_pair_spec =
+    tie.close
+    (tie.spec
+    returns)

@@ -10,39 +10,49 @@ use borrow.Author.Rules.{rules}
 use Rattle.piles.proofs.clear.Statement.{statement}
 use Rattle.piles.proofs.clear.Tie as tie
 
-abbrev invariant-loop : tie.invariant-loop
-invariant-loop part₀ i₀ part i = (i ≤ 13) × (length part ≡ 13) × (part ≡ replicate i 255 ++ drop i part₀)
+abbrev invariant-loop-i : tie.invariant-loop-i
+invariant-loop-i part₀ i₀ part i = (i ≤ 13) × (length part ≡ 13) × (part ≡ replicate i 255 ++ drop i part₀)
 
-abbrev decreases-loop : tie.decreases-loop
-decreases-loop part₀ i₀ part i = 13 - i
+abbrev decreases-loop-i : tie.decreases-loop-i
+decreases-loop-i part₀ i₀ part i = 13 - i
 
-loop-holds : tie.Need-loop-init invariant-loop decreases-loop
-loop-holds c = search rules
+loop-i-init : tie.Need-loop-i-init invariant-loop-i decreases-loop-i
+loop-i-init c = search rules
 
-slice-write-part : tie.Need-slice-write-part invariant-loop decreases-loop
-slice-write-part c = search rules
+bounds-part-i : tie.Need-bounds-part-i invariant-loop-i decreases-loop-i
+bounds-part-i c = search rules
 
-add-i : tie.Need-overflow-add-i invariant-loop decreases-loop
-add-i c = search rules
+overflow_add-i : tie.Need-overflow_add-i invariant-loop-i decreases-loop-i
+overflow_add-i c = search rules
 
-loop-less : tie.Need-loop-smaller invariant-loop decreases-loop
-loop-less c = search rules
+loop-i-smaller : tie.Need-loop-i-smaller invariant-loop-i decreases-loop-i
+loop-i-smaller c = search rules
 
-loop-again : tie.Need-loop-preserved invariant-loop decreases-loop
-loop-again c =
-    let l = c.before.loop in
+loop-i-preserved : tie.Need-loop-i-preserved invariant-loop-i decreases-loop-i
+loop-i-preserved c =
+    let l = c.loop-i in
     (search rules, search rules, ap (λ m. set m l.i 255) l.invariant.2 ∙ fill_more l.i 255 _ (omega arith))
 
-same_length : tie.Need-same-length invariant-loop decreases-loop
-same_length c = search rules
+shape_of-part : tie.Need-shape_of-part invariant-loop-i decreases-loop-i
+shape_of-part c = search rules
 
-returns : tie.Need-returns invariant-loop decreases-loop
+returns : tie.Need-returns invariant-loop-i decreases-loop-i
 returns c =
-    let l = c.before.loop in
+    let l = c.loop-i in
     let e : l.i ≡ 13 = omega arith in
-    let none = drop_of_length-le c.before.before.args.part.now {i = 13} (omega arith) in
+    let none = drop_of_length-le c.args.part.now {i = 13} (omega arith) in
     l.invariant.2 ∙ rw (e, none)
 
 pub clear_spec : {M : Type 1} → statement M
 clear_spec =
-    tie.close (tie.spec invariant-loop decreases-loop loop-holds slice-write-part add-i loop-less loop-again same_length returns)
+    tie.close
+    (tie.spec
+    invariant-loop-i
+    decreases-loop-i
+    loop-i-init
+    bounds-part-i
+    overflow_add-i
+    loop-i-smaller
+    loop-i-preserved
+    shape_of-part
+    returns)

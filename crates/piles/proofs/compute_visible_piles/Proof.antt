@@ -23,6 +23,7 @@ use Rattle.piles.proofs.Turn.{Shown, none_yet, head_turn, empty_turn, all_shown}
 use borrow.Author.Rules.{rules}
 use Rattle.piles.proofs.compute_visible_piles.Statement.{statement}
 use Rattle.piles.proofs.compute_visible_piles.Tie as tie
+use Rattle.piles.proofs.compute_visible_piles.Lts.{then-n-gt0, else-n-gt0}
 
 record Inv (out₀ deal counts : List ℕ) (vis free : ℕ) (out lens : List ℕ) (from i : ℕ) : Type 0 where
   filled : i ≤ 7
@@ -30,11 +31,11 @@ record Inv (out₀ deal counts : List ℕ) (vis free : ℕ) (out lens : List ℕ
   seven : length lens ≡ 7
   shown : (p : Position) → Reads p deal counts vis free → Shown p free out₀ out lens from i
 
-abbrev invariant-loop : tie.invariant-loop
-invariant-loop out₀ deal counts vis free lens₀ from₀ i₀ out lens from i = Inv out₀ deal counts vis free out lens from i
+abbrev invariant-loop-i : tie.invariant-loop-i
+invariant-loop-i out₀ deal counts vis free lens₀ from₀ i₀ out lens from i = Inv out₀ deal counts vis free out lens from i
 
-abbrev decreases-loop : tie.decreases-loop
-decreases-loop out₀ deal counts vis free lens₀ from₀ i₀ out lens from i = 7 - i
+abbrev decreases-loop-i : tie.decreases-loop-i
+decreases-loop-i out₀ deal counts vis free lens₀ from₀ i₀ out lens from i = 7 - i
 
 -- the head of pile i stands at a place of the deal, and is a card
 place : (p : Position) → T (proper p) → (i : ℕ) → i < 7 → 0 < get_or p.counts i 0 → pile_start i + (get_or p.counts i 0 - 1) < 52
@@ -47,164 +48,164 @@ card p t i l n = head_low p (facts p t) i l (lt-ltb 0 (get_or p.counts i 0) n)
 part-size : (out : List ℕ) (i : ℕ) → i < 7 → 91 ≤ length out → length (take (13 * i + 13 - 13 * i) (drop (13 * i) out)) ≡ 13
 part-size out i l n = mid_len (13 * i) (13 * i + 13) out (omega arith) ∙ omega arith
 
-heads-requires : tie.Need-heads-requires invariant-loop decreases-loop
-heads-requires c κs = search rules
+heads-heads-requires : tie.Need-heads-heads-requires invariant-loop-i decreases-loop-i
+heads-heads-requires c κs = search rules
 
-loop-holds : tie.Need-loop-init invariant-loop decreases-loop
-loop-holds c = record { filled = lit≤ tt; size = refl; seven = refl; shown = λ p r. none_yet p _ _ _ _ r _ _ }
+loop-i-init : tie.Need-loop-i-init invariant-loop-i decreases-loop-i
+loop-i-init c = record { filled = lit≤ tt; size = refl; seven = refl; shown = λ p r. none_yet p _ _ _ _ r _ _ }
 
-mul-a : tie.Need-overflow-mul-a invariant-loop decreases-loop
-mul-a c = search rules
+overflow_mul-a : tie.Need-overflow_mul-a invariant-loop-i decreases-loop-i
+overflow_mul-a c = search rules
 
-array-read-n : tie.Need-array-read-n invariant-loop decreases-loop
-array-read-n c = search rules
+bounds-counts-i : tie.Need-bounds-counts-i invariant-loop-i decreases-loop-i
+bounds-counts-i c = search rules
 
-cast-n : tie.Need-overflow-cast-n invariant-loop decreases-loop
-cast-n c = search rules
+overflow_cast-n : tie.Need-overflow_cast-n invariant-loop-i decreases-loop-i
+overflow_cast-n c = search rules
 
-pile-start-requires : tie.Need-pile-start-requires invariant-loop decreases-loop
-pile-start-requires c κs = search rules
+pile_start-requires : tie.Need-pile_start-requires invariant-loop-i decreases-loop-i
+pile_start-requires c κs = search rules
 
-cast-at : tie.Need-overflow-cast-at invariant-loop decreases-loop
-cast-at c = search rules
+overflow_cast-at : tie.Need-overflow_cast-at invariant-loop-i decreases-loop-i
+overflow_cast-at c = search rules
 
 -- the place of the head
-at : (c : tie.After-pile-start invariant-loop decreases-loop) → c.pile-start.result + get_or c.before.before.before.before.before.before.before.before.before.args.p.counts c.before.before.before.loop.i 0 - 1 < 52
+at : (c : tie.After-pile_start invariant-loop-i decreases-loop-i) → c.pile_start.result + get_or c.args.p.counts c.loop-i.i 0 - 1 < 52
 at c =
-    let s = c.before.before.before.before.before.before.before.before.before in
-    omega (arith, place s.args.p s.requires.0 c.before.before.before.loop.i c.before.before.loop-test.true c.before.if1.true, c.pile-start.ensures, c.before.if1.true)
+    let s = c.before in
+    omega (arith, place s.args.p s.requires.0 c.loop-i.i c.loop-i-test.true c.if-n-gt0.true, c.pile_start.ensures, c.if-n-gt0.true)
 
-add_at : tie.Need-overflow-add-at invariant-loop decreases-loop
-add_at c = omega (arith, at c)
+overflow_add-at : tie.Need-overflow_add-at invariant-loop-i decreases-loop-i
+overflow_add-at c = omega (arith, at c)
 
-sub_at : tie.Need-overflow-sub-at invariant-loop decreases-loop
-sub_at c = search rules
+overflow_sub-at : tie.Need-overflow_sub-at invariant-loop-i decreases-loop-i
+overflow_sub-at c = search rules
 
-add-fill-run : tie.Need-overflow-add-fill-run invariant-loop decreases-loop
-add-fill-run c = search rules
+overflow_add-a : tie.Need-overflow_add-a invariant-loop-i decreases-loop-i
+overflow_add-a c = search rules
 
-sub-fill-run : tie.Need-overflow-sub-fill-run invariant-loop decreases-loop
-sub-fill-run c = search rules
+slice_bounds-fill_run-count : tie.Need-slice_bounds-fill_run-count invariant-loop-i decreases-loop-i
+slice_bounds-fill_run-count c = search rules
 
-part-fill-run-start : tie.Need-slice-bounds-fill-run-start invariant-loop decreases-loop
-part-fill-run-start c = search rules
+slice_bounds-fill_run-start : tie.Need-slice_bounds-fill_run-start invariant-loop-i decreases-loop-i
+slice_bounds-fill_run-start c = search rules
 
-part-fill-run-end : tie.Need-slice-bounds-fill-run-end invariant-loop decreases-loop
-part-fill-run-end c = search rules
+slice_bounds-fill_run-end : tie.Need-slice_bounds-fill_run-end invariant-loop-i decreases-loop-i
+slice_bounds-fill_run-end c = search rules
 
-array-read-fill-run : tie.Need-array-read-fill-run invariant-loop decreases-loop
-array-read-fill-run c = at c.before
+bounds-deal-at : tie.Need-bounds-deal-at invariant-loop-i decreases-loop-i
+bounds-deal-at c = at c.before
 
-fill-run-requires : tie.Need-fill-run-requires invariant-loop decreases-loop
-fill-run-requires c κs =
-    let s = c.before.before.before.before.before.before.before.before.before.before in
-    let l = c.before.before.before.before.loop in
+fill_run-requires : tie.Need-fill_run-requires invariant-loop-i decreases-loop-i
+fill_run-requires c κs =
+    let s = c.before in
+    let l = c.loop-i in
     let n = get_or s.args.p.counts l.i 0 in
-    let e : c.before.pile-start.result + n - 1 ≡ pile_start l.i + (n - 1) = omega (arith, c.before.pile-start.ensures, c.before.before.if1.true) in (
-      part-size l.out l.i c.before.before.before.loop-test.true (omega (arith, l.invariant.size, s.requires.1)),
-      rw e (card s.args.p s.requires.0 l.i c.before.before.before.loop-test.true c.before.before.if1.true),
+    let e : c.pile_start.result + n - 1 ≡ pile_start l.i + (n - 1) = omega (arith, c.pile_start.ensures, c.if-n-gt0.true) in (
+      part-size l.out l.i c.loop-i-test.true (omega (arith, l.invariant.size, s.requires.1)),
+      rw e (card s.args.p s.requires.0 l.i c.loop-i-test.true c.if-n-gt0.true),
     )
 
-array-write-lens : tie.Need-array-write-lens invariant-loop decreases-loop
-array-write-lens c = search rules
+bounds-lens-i : tie.Need-bounds-lens-i invariant-loop-i decreases-loop-i
+bounds-lens-i c = search rules
 
-add-fill-empty : tie.Need-overflow-add-fill-empty invariant-loop decreases-loop
-add-fill-empty c = search rules
+overflow_add-a-else-n-gt0 : tie.Need-overflow_add-a-else-n-gt0 invariant-loop-i decreases-loop-i
+overflow_add-a-else-n-gt0 c = search rules
 
-sub-fill-empty : tie.Need-overflow-sub-fill-empty invariant-loop decreases-loop
-sub-fill-empty c = search rules
+slice_bounds-fill_empty-count : tie.Need-slice_bounds-fill_empty-count invariant-loop-i decreases-loop-i
+slice_bounds-fill_empty-count c = search rules
 
-part-fill-empty-start : tie.Need-slice-bounds-fill-empty-start invariant-loop decreases-loop
-part-fill-empty-start c = search rules
+slice_bounds-fill_empty-start : tie.Need-slice_bounds-fill_empty-start invariant-loop-i decreases-loop-i
+slice_bounds-fill_empty-start c = search rules
 
-part-fill-empty-end : tie.Need-slice-bounds-fill-empty-end invariant-loop decreases-loop
-part-fill-empty-end c = search rules
+slice_bounds-fill_empty-end : tie.Need-slice_bounds-fill_empty-end invariant-loop-i decreases-loop-i
+slice_bounds-fill_empty-end c = search rules
 
-fill-empty-requires : tie.Need-fill-empty-requires invariant-loop decreases-loop
-fill-empty-requires c κs =
-    let s = c.before.before.before.before.before.before.before.before.before in
-    let l = c.before.before.before.loop in
-    part-size l.out l.i c.before.before.loop-test.true (omega (arith, l.invariant.size, s.requires.1))
+fill_empty-f-requires : tie.Need-fill_empty-f-requires invariant-loop-i decreases-loop-i
+fill_empty-f-requires c κs =
+    let s = c.before in
+    let l = c.loop-i in
+    part-size l.out l.i c.loop-i-test.true (omega (arith, l.invariant.size, s.requires.1))
 
-array-write-lens-2 : tie.Need-array-write-lens-2 invariant-loop decreases-loop
-array-write-lens-2 c = search rules
+bounds-lens-i-else-n-gt0 : tie.Need-bounds-lens-i-else-n-gt0 invariant-loop-i decreases-loop-i
+bounds-lens-i-else-n-gt0 c = search rules
 
-add-i : tie.Need-overflow-add-i invariant-loop decreases-loop
-add-i c = search rules
+overflow_add-i : tie.Need-overflow_add-i invariant-loop-i decreases-loop-i
+overflow_add-i c = search rules
 
-loop-less : tie.Need-loop-smaller invariant-loop decreases-loop
-loop-less c = search rules
+loop-i-smaller : tie.Need-loop-i-smaller invariant-loop-i decreases-loop-i
+loop-i-smaller c = search rules
 
-loop-again : tie.Need-loop-preserved invariant-loop decreases-loop
-loop-again c =
-    let s = c.before.before.before.before.before.before.before.before in
-    let l = c.before.before.loop in
+loop-i-preserved : tie.Need-loop-i-preserved invariant-loop-i decreases-loop-i
+loop-i-preserved c =
+    let s = c.before in
+    let l = c.loop-i in
     let v = l.invariant in
     let i = l.i in
-    let low : i < 7 = c.before.loop-test.true in
+    let low : i < 7 = c.loop-i-test.true in
     let big : 91 ≤ length l.out = omega (arith, v.size, s.requires.1) in
     let n = get_or s.args.p.counts i 0 in
-    ⊎_elim
-    (λ w.
-    let e : w.1.result + n - 1 ≡ pile_start i + (n - 1) = omega (arith, w.1.ensures, w.0.taken) in
-    record {
-      filled = omega arith;
-      size = ap length w.6 ∙ w.4.given.1 ∙ v.size;
-      seven = ap length w.7 ∙ length-set l.lens i w.3.result ∙ v.seven;
-      shown = λ p r. rw (w.6, w.7, w.8) (head_turn p _ _ _ _ r _ _ _ _ _ low v.seven big (v.shown p r) _ _ w.0.taken (rw e at w.3.ensures.0) (rw e at w.3.ensures.1));
-    })
-    (λ w. record {
-      filled = omega arith;
-      size = ap length w.5 ∙ w.3.given.1 ∙ v.size;
-      seven = ap length w.6 ∙ length-set l.lens i w.2.result.len ∙ v.seven;
-      shown = λ p r. rw (w.5, w.6, w.7) (empty_turn p _ _ _ _ r _ _ _ _ _ low v.seven big (v.shown p r) _ w.2.result w.0.left w.2.ensures.0 w.2.ensures.1 w.2.ensures.2);
-    })
-    c.if1.branch
+    elim c.if-n-gt0.branch [
+      then-n-gt0 w ↦
+        let e : w.pile_start.result + n - 1 ≡ pile_start i + (n - 1) = omega (arith, w.pile_start.ensures, w.if-n-gt0.true) in
+        record {
+          filled = omega arith;
+          size = omega (arith, c.if-n-gt0.auto.out, v.size);
+          seven = ap length w.lens-is ∙ length-set l.lens i w.fill_run.result ∙ v.seven;
+          shown = λ p r. rw (w.out-is, w.lens-is, w.from-is) (head_turn p _ _ _ _ r _ _ _ _ _ low v.seven big (v.shown p r) _ _ w.if-n-gt0.true (rw e at w.fill_run.ensures.0) (rw e at w.fill_run.ensures.1));
+        }
+    | else-n-gt0 w ↦ record {
+        filled = omega arith;
+        size = omega (arith, c.if-n-gt0.auto.out, v.size);
+        seven = ap length w.lens-is ∙ length-set l.lens i w.fill_empty-f.result.len ∙ v.seven;
+        shown = λ p r. rw (w.out-is, w.lens-is, w.from-is) (empty_turn p _ _ _ _ r _ _ _ _ _ low v.seven big (v.shown p r) _ w.fill_empty-f.result w.if-n-gt0.false w.fill_empty-f.ensures.0 w.fill_empty-f.ensures.1 w.fill_empty-f.ensures.2);
+      }
+    ]
 
-same_length : tie.Need-same-length invariant-loop decreases-loop
-same_length c = c.before.loop.invariant.size
+shape_of-out : tie.Need-shape_of-out invariant-loop-i decreases-loop-i
+shape_of-out c = c.loop-i.invariant.size
 
-returns : tie.Need-returns invariant-loop decreases-loop
+returns : tie.Need-returns invariant-loop-i decreases-loop-i
 returns c =
-    let s = c.before.before.before.before.before.before.before in
-    let h = c.before.before.before.heads in
-    let l = c.before.loop in
+    let s = c.before in
+    let h = c.heads-heads in
+    let l = c.loop-i in
     let p = s.args.p in
     let t = s.requires.0 in
     let free : bit_and p.visible ((2 ^ 64 - 1) - h.result.all) ≡ mask_of 52 (is_free p) = ap (λ (m : ℕ). bit_and p.visible ((2 ^ 64 - 1) - m)) h.ensures.0 ∙ free_mask p (facts p t) in
     all_shown p _ _ _ _ _ l.i (omega (arith, l.invariant.filled)) l.invariant.seven
     (l.invariant.shown p (record { good = t; cards = refl; locked = refl; seen = refl; loose = free }))
 
-pub compute-visible-piles-spec : {M : Type 1} → statement M
-compute-visible-piles-spec =
+pub compute_visible_piles_spec : {M : Type 1} → statement M
+compute_visible_piles_spec =
     tie.close
     (tie.spec
-    invariant-loop
-    decreases-loop
-    heads-requires
-    loop-holds
-    mul-a
-    array-read-n
-    cast-n
-    pile-start-requires
-    cast-at
-    add_at
-    sub_at
-    add-fill-run
-    sub-fill-run
-    part-fill-run-start
-    part-fill-run-end
-    array-read-fill-run
-    fill-run-requires
-    array-write-lens
-    add-fill-empty
-    sub-fill-empty
-    part-fill-empty-start
-    part-fill-empty-end
-    fill-empty-requires
-    array-write-lens-2
-    add-i
-    loop-less
-    loop-again
-    same_length
+    invariant-loop-i
+    decreases-loop-i
+    heads-heads-requires
+    loop-i-init
+    overflow_mul-a
+    bounds-counts-i
+    overflow_cast-n
+    pile_start-requires
+    overflow_cast-at
+    overflow_add-at
+    overflow_sub-at
+    overflow_add-a
+    slice_bounds-fill_run-count
+    slice_bounds-fill_run-start
+    slice_bounds-fill_run-end
+    bounds-deal-at
+    fill_run-requires
+    bounds-lens-i
+    overflow_add-a-else-n-gt0
+    slice_bounds-fill_empty-count
+    slice_bounds-fill_empty-start
+    slice_bounds-fill_empty-end
+    fill_empty-f-requires
+    bounds-lens-i-else-n-gt0
+    overflow_add-i
+    loop-i-smaller
+    loop-i-preserved
+    shape_of-out
     returns)

@@ -11,111 +11,112 @@ use Rattle.piles.proofs.Kings.{Yields, kings_end, kings_step}
 use borrow.Author.Rules.{rules}
 use Rattle.piles.proofs.fill_empty.Statement.{statement}
 use Rattle.piles.proofs.fill_empty.Tie as tie
+use Rattle.piles.proofs.fill_empty.Lts.{then-s-ge-SUITS, else-s-ge-SUITS+then-has}
 
-abbrev invariant-loop : tie.invariant-loop
-invariant-loop part vis free from s₀ s = kings_of free from ≡ kings_of free s
+abbrev invariant-loop-s : tie.invariant-loop-s
+invariant-loop-s part vis free from s₀ s = kings_of free from ≡ kings_of free s
 
-abbrev decreases-loop : tie.decreases-loop
-decreases-loop part vis free from s₀ s = 4 - s
+abbrev decreases-loop-s : tie.decreases-loop-s
+decreases-loop-s part vis free from s₀ s = 4 - s
 
-loop-holds : tie.Need-loop-init invariant-loop decreases-loop
-loop-holds c = search rules
+loop-s-init : tie.Need-loop-s-init invariant-loop-s decreases-loop-s
+loop-s-init c = search rules
 
-add-has : tie.Need-overflow-add-has invariant-loop decreases-loop
-add-has c = search rules
+overflow_add-s : tie.Need-overflow_add-s invariant-loop-s decreases-loop-s
+overflow_add-s c = search rules
 
-has-requires : tie.Need-has-requires invariant-loop decreases-loop
+has-requires : tie.Need-has-requires invariant-loop-s decreases-loop-s
 has-requires c κs = search rules
 
-add-s : tie.Need-overflow-add-s invariant-loop decreases-loop
-add-s c = search rules
+overflow_add-s-in-loop-s : tie.Need-overflow_add-s-in-loop-s invariant-loop-s decreases-loop-s
+overflow_add-s-in-loop-s c = search rules
 
-loop-less : tie.Need-loop-smaller invariant-loop decreases-loop
-loop-less c = search rules
+loop-s-smaller : tie.Need-loop-s-smaller invariant-loop-s decreases-loop-s
+loop-s-smaller c = search rules
 
-loop-again : tie.Need-loop-preserved invariant-loop decreases-loop
-loop-again c =
-    let s = c.before.before.before.before.before.args in
-    let l = c.before.before.before.loop in
-    l.invariant ∙ kings_step s.free l.s (omega (arith, c.before.before.if1.false)) ∙ rw (← c.before.has.ensures, c.if2.false)
+loop-s-preserved : tie.Need-loop-s-preserved invariant-loop-s decreases-loop-s
+loop-s-preserved c =
+    let s = c.args in
+    let l = c.loop-s in
+    l.invariant ∙ kings_step s.free l.s (omega (arith, c.if-s-ge-SUITS.false)) ∙ rw (← c.has.ensures, c.if-has.false)
 
 -- where the search ends
-found : (c : tie.Joined1 invariant-loop decreases-loop) → Yields c.before.before.before.args.free c.before.before.before.args.from c.if1.next
+found : (c : tie.Joined-s-ge-SUITS invariant-loop-s decreases-loop-s) → Yields c.args.free c.args.from c.if-s-ge-SUITS.next
 found c =
-    let s = c.before.before.before.args in
-    let l = c.before.loop in
-    ⊎_elim
-    (λ w. subst (Yields s.free s.from) (sym w.1) (l.invariant ∙ kings_end s.free l.s (omega (arith, w.0.taken))))
-    (λ w.
-    let low : l.s < 4 = omega (arith, w.0.left) in
-    subst (Yields s.free s.from) (sym w.3) (low, l.invariant ∙ kings_step s.free l.s low ∙ rw (← w.1.ensures, w.2.taken)))
-    c.if1.branch
+    let s = c.args in
+    let l = c.loop-s in
+    elim c.if-s-ge-SUITS.branch [
+      then-s-ge-SUITS w ↦ subst (Yields s.free s.from) (sym w.next-is) (l.invariant ∙ kings_end s.free l.s (omega (arith, w.if-s-ge-SUITS.true)))
+    | else-s-ge-SUITS+then-has w ↦
+      let low : l.s < 4 = omega (arith, w.if-s-ge-SUITS.false) in
+      subst (Yields s.free s.from) (sym w.next-is) (low, l.invariant ∙ kings_step s.free l.s low ∙ rw (← w.has.ensures, w.if-has.true))
+    ]
 
 -- the king that was found; or that there is none
-king : (c : tie.After-next invariant-loop decreases-loop) → Yields c.before.before.before.before.before.args.free c.before.before.before.before.before.args.from (Suit c.next.given.0.0)
+king : (c : tie.In-Suit invariant-loop-s decreases-loop-s) → Yields c.args.free c.args.from (Suit c.in-Suit.k)
 king c =
-    let s = c.before.before.before.before.before.args in
-    subst (Yields s.free s.from) c.next.given.1 (found c.before.before)
+    let s = c.args in
+    subst (Yields s.free s.from) c.in-Suit.is (found c.before)
 
-none : (c : tie.After-enum-told invariant-loop decreases-loop) → Yields c.before.before.before.before.before.args.free c.before.before.before.before.before.args.from None
+none : (c : tie.In-None invariant-loop-s decreases-loop-s) → Yields c.args.free c.args.from None
 none c =
-    let s = c.before.before.before.before.before.args in
-    subst (Yields s.free s.from) c.enum_told.given.1 (found c.before.before)
+    let s = c.args in
+    subst (Yields s.free s.from) c.in-None.is (found c.before)
 
-enum-known-next : tie.Need-enum-known-next invariant-loop decreases-loop
-enum-known-next c = search rules
+enum_known-next : tie.Need-enum_known-next invariant-loop-s decreases-loop-s
+enum_known-next c = search rules
 
-add-fill-run : tie.Need-overflow-add-fill-run invariant-loop decreases-loop
-add-fill-run c = omega (arith, (king c.before.before).0)
+overflow_add-k : tie.Need-overflow_add-k invariant-loop-s decreases-loop-s
+overflow_add-k c = omega (arith, (king c.before).0)
 
-fill-run-requires : tie.Need-fill-run-requires invariant-loop decreases-loop
-fill-run-requires c κs = (search rules, omega (arith, (king c.before.before).0))
+fill_run-len-requires : tie.Need-fill_run-len-requires invariant-loop-s decreases-loop-s
+fill_run-len-requires c κs = (search rules, omega (arith, (king c.before).0))
 
-add-t16 : tie.Need-overflow-add-t16 invariant-loop decreases-loop
-add-t16 c = omega (arith, (king c.before.before.before.before.before).0)
+overflow_add-result : tie.Need-overflow_add-result invariant-loop-s decreases-loop-s
+overflow_add-result c = omega (arith, (king c.before.before.before.before).0)
 
-enum_told : tie.Need-enum-told invariant-loop decreases-loop
-enum_told c = search rules
+enum_told-1 : tie.Need-enum_told-1 invariant-loop-s decreases-loop-s
+enum_told-1 c = search rules
 
-clear-requires : tie.Need-clear-requires invariant-loop decreases-loop
+clear-requires : tie.Need-clear-requires invariant-loop-s decreases-loop-s
 clear-requires c κs = search rules
 
-same_length : tie.Need-same-length invariant-loop decreases-loop
-same_length c = search rules
+shape_of-part-in-Suit : tie.Need-shape_of-part-in-Suit invariant-loop-s decreases-loop-s
+shape_of-part-in-Suit c = search rules
 
-returns : tie.Need-returns invariant-loop decreases-loop
-returns c =
-    let e = (king c.before.before.before.before.before).1 in
-    let r = c.before.before.fill-run.ensures in
+returns-in-Suit : tie.Need-returns-in-Suit invariant-loop-s decreases-loop-s
+returns-in-Suit c =
+    let e = (king c.before.before.before.before).1 in
+    let r = c.fill_run-len.ensures in
     (rw e r.0, rw e, rw e r.1)
 
-same-length-2 : tie.Need-same-length-2 invariant-loop decreases-loop
-same-length-2 c = search rules
+shape_of-part-in-None : tie.Need-shape_of-part-in-None invariant-loop-s decreases-loop-s
+shape_of-part-in-None c = search rules
 
-returns-2 : tie.Need-returns-2 invariant-loop decreases-loop
-returns-2 c =
+returns-in-None : tie.Need-returns-in-None invariant-loop-s decreases-loop-s
+returns-in-None c =
     let e = none c.before.before.before.before in
-    (rw e, rw e (kings_end _ 4 (lit≤ tt)), rw e c.before.before.clear.ensures)
+    (rw e, rw e (kings_end _ 4 (lit≤ tt)), rw e c.clear.ensures)
 
-pub fill-empty-spec : {M : Type 1} → statement M
-fill-empty-spec =
+pub fill_empty_spec : {M : Type 1} → statement M
+fill_empty_spec =
     tie.close
     (tie.spec
-    invariant-loop
-    decreases-loop
-    loop-holds
-    add-has
+    invariant-loop-s
+    decreases-loop-s
+    loop-s-init
+    overflow_add-s
     has-requires
-    add-s
-    loop-less
-    loop-again
-    enum-known-next
-    add-fill-run
-    fill-run-requires
-    add-t16
-    enum_told
+    overflow_add-s-in-loop-s
+    loop-s-smaller
+    loop-s-preserved
+    enum_known-next
+    overflow_add-k
+    fill_run-len-requires
+    overflow_add-result
+    enum_told-1
     clear-requires
-    same_length
-    returns
-    same-length-2
-    returns-2)
+    shape_of-part-in-Suit
+    returns-in-Suit
+    shape_of-part-in-None
+    returns-in-None)

@@ -12,79 +12,80 @@ use Rattle.piles.proofs.Row.{Written, ends_ace, ends_here, goes_on}
 use borrow.Author.Rules.{rules}
 use Rattle.piles.proofs.fill_run.Statement.{statement}
 use Rattle.piles.proofs.fill_run.Tie as tie
+use Rattle.piles.proofs.fill_run.Lts.{then-card-lt-SUITS, else-card-lt-SUITS+then-not-has}
 
-abbrev invariant-loop : tie.invariant-loop
-invariant-loop part₀ vis free start card₀ n₀ part card n = Written vis free start part card n
+abbrev invariant-loop-card : tie.invariant-loop-card
+invariant-loop-card part₀ vis free start card₀ n₀ part card n = Written vis free start part card n
 
-abbrev decreases-loop : tie.decreases-loop
-decreases-loop part₀ vis free start card₀ n₀ part card n = 13 - n
+abbrev decreases-loop-card : tie.decreases-loop-card
+decreases-loop-card part₀ vis free start card₀ n₀ part card n = 13 - n
 
-clear-requires : tie.Need-clear-requires invariant-loop decreases-loop
+clear-requires : tie.Need-clear-requires invariant-loop-card decreases-loop-card
 clear-requires c κs = search rules
 
-loop-holds : tie.Need-loop-init invariant-loop decreases-loop
-loop-holds c =
-    let d = c.before.before.clear.ensures in
+loop-card-init : tie.Need-loop-card-init invariant-loop-card decreases-loop-card
+loop-card-init c =
+    let d = c.clear.ensures in
     record { size = ap length d; ranks = omega arith; cards = refl; others = d }
 
-slice-write-part : tie.Need-slice-write-part invariant-loop decreases-loop
-slice-write-part c = omega (arith, c.loop.invariant.ranks, c.loop.invariant.size)
+bounds-part-n : tie.Need-bounds-part-n invariant-loop-card decreases-loop-card
+bounds-part-n c = omega (arith, c.loop-card.invariant.ranks, c.loop-card.invariant.size)
 
-add-n : tie.Need-overflow-add-n invariant-loop decreases-loop
-add-n c = omega (arith, c.loop.invariant.ranks)
+overflow_add-n : tie.Need-overflow_add-n invariant-loop-card decreases-loop-card
+overflow_add-n c = omega (arith, c.loop-card.invariant.ranks)
 
-next-card-requires : tie.Need-next-card-requires invariant-loop decreases-loop
-next-card-requires c κs = (c.loop-test.false, omega (arith, c.before.loop.invariant.ranks))
+next_card-card-requires : tie.Need-next_card-card-requires invariant-loop-card decreases-loop-card
+next_card-card-requires c κs = (c.if-card-lt-SUITS.false, omega (arith, c.loop-card.invariant.ranks))
 
-has-requires : tie.Need-has-requires invariant-loop decreases-loop
+has-requires : tie.Need-has-requires invariant-loop-card decreases-loop-card
 has-requires c κs =
-    let l = c.before.before.loop in
-    let s = c.before.before.before.before.before.before.before.before.args in
-    omega (arith, c.next-card.ensures, tried_rank s.vis s.free l.card c.before.loop-test.false, l.invariant.ranks)
+    let l = c.loop-card in
+    let s = c.args in
+    omega (arith, c.next_card-card.ensures, tried_rank s.vis s.free l.card c.if-card-lt-SUITS.false, l.invariant.ranks)
 
-loop-less : tie.Need-loop-smaller invariant-loop decreases-loop
-loop-less c = omega (arith, c.before.before.before.before.loop.invariant.ranks)
+loop-card-smaller : tie.Need-loop-card-smaller invariant-loop-card decreases-loop-card
+loop-card-smaller c = omega (arith, c.loop-card.invariant.ranks)
 
-loop-again : tie.Need-loop-preserved invariant-loop decreases-loop
-loop-again c =
-    let l = c.before.before.before.before.loop in
-    let s = c.before.before.before.before.before.before.before.before.before.before.args in
-    let e = c.before.before.next-card.ensures in
+loop-card-preserved : tie.Need-loop-card-preserved invariant-loop-card decreases-loop-card
+loop-card-preserved c =
+    let l = c.loop-card in
+    let s = c.args in
+    let e = c.next_card-card.ensures in
     subst (λ (x : ℕ). Written s.vis s.free s.start (set l.part l.n l.card) x (l.n + 1)) (sym e)
-    (goes_on s.vis s.free s.start l.card l.n l.part l.invariant c.before.before.before.loop-test.false
-    (ap (bit s.free) (sym e) ∙ sym c.before.has.ensures ∙ not-false _ c.if1.false))
+    (goes_on s.vis s.free s.start l.card l.n l.part l.invariant c.if-card-lt-SUITS.false
+    (ap (bit s.free) (sym e) ∙ sym c.has.ensures ∙ c.if-not-has.false))
 
-cast-result : tie.Need-overflow-cast-result invariant-loop decreases-loop
-cast-result c = omega (arith, c.before.loop.invariant.ranks)
+overflow_cast-result : tie.Need-overflow_cast-result invariant-loop-card decreases-loop-card
+overflow_cast-result c = omega (arith, c.loop-card.invariant.ranks)
 
-same_length : tie.Need-same-length invariant-loop decreases-loop
-same_length c = simp length-set (omega (arith, c.before.loop.invariant.size))
+shape_of-part : tie.Need-shape_of-part invariant-loop-card decreases-loop-card
+shape_of-part c = simp length-set (omega (arith, c.loop-card.invariant.size))
 
-returns : tie.Need-returns invariant-loop decreases-loop
+returns : tie.Need-returns invariant-loop-card decreases-loop-card
 returns c =
-    let l = c.before.loop in
-    let s = c.before.before.before.before.before.before.before.args in
-    ⊎_elim
-    (λ w. ends_ace s.vis s.free s.start l.card l.n l.part l.invariant w.0.taken)
-    (λ w.
-    ends_here s.vis s.free s.start l.card l.n l.part l.invariant w.0.left
-    (ap (bit s.free) (sym w.1.ensures) ∙ sym w.2.ensures ∙ not-true _ w.3.taken))
-    c.loop-test.branch
+    let l = c.loop-card in
+    let s = c.args in
+    elim c.if-card-lt-SUITS.branch [
+      then-card-lt-SUITS w ↦ ends_ace s.vis s.free s.start l.card l.n l.part l.invariant w.if-card-lt-SUITS.true
+    | else-card-lt-SUITS+then-not-has w ↦
+      ends_here s.vis s.free s.start l.card l.n l.part l.invariant w.if-card-lt-SUITS.false
+      (ap (bit s.free) (sym w.next_card-card.ensures) ∙ sym w.has.ensures ∙ w.if-not-has.true)
+    ]
 
-pub fill-run-spec : {M : Type 1} → statement M
-fill-run-spec =
+pub fill_run_spec : {M : Type 1} → statement M
+fill_run_spec =
     tie.close
     (tie.spec
-    invariant-loop
-    decreases-loop
+    invariant-loop-card
+    decreases-loop-card
     clear-requires
-    loop-holds
-    slice-write-part
-    add-n
-    next-card-requires
+    loop-card-init
+    bounds-part-n
+    overflow_add-n
+    next_card-card-requires
     has-requires
-    loop-less
-    loop-again
-    cast-result
-    same_length
+    loop-card-smaller
+    loop-card-preserved
+    overflow_cast-result
+    shape_of-part
     returns)

@@ -11,13 +11,17 @@ use borrow.Author.Rules.{rules}
 use Rattle.piles.proofs.has.Statement.{statement}
 use Rattle.piles.proofs.has.Tie as tie
 
-shr-result : tie.Need-overflow-shr-result
-shr-result c = search rules
+overflow_shr-result : tie.Need-overflow_shr-result
+overflow_shr-result c = search rules
 
 returns : tie.Need-returns
 returns c =
     ap (λ (x : ℕ). eqb x 1) (has_shr c.args.m c.args.card)
     ∙ either (λ (b : Bool). eqb (num b) 1 ≡ b) refl refl (bit c.args.m c.args.card)
 
-pub has-spec : {M : Type 1} → statement M
-has-spec = tie.close (tie.spec shr-result returns)
+pub has_spec : {M : Type 1} → statement M
+has_spec =
+    tie.close
+    (tie.spec
+    overflow_shr-result
+    returns)

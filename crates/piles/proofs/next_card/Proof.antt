@@ -10,48 +10,48 @@ use borrow.Author.Rules.{rules}
 use Rattle.piles.proofs.next_card.Statement.{statement}
 use Rattle.piles.proofs.next_card.Tie as tie
 
-swap-suit-requires : tie.Need-swap-suit-requires
-swap-suit-requires c κs = search rules
+swap_suit-requires : tie.Need-swap_suit-requires
+swap_suit-requires c κs = search rules
 
-has-requires : tie.Need-has-requires
-has-requires c κs = omega (arith, c.swap-suit.ensures, partner_half c.before.args.card)
+has-has_both-requires : tie.Need-has-has_both-requires
+has-has_both-requires c κs = omega (arith, c.swap_suit.ensures, partner_half c.args.card)
 
-sub-next : tie.Need-overflow-sub-next
-sub-next c = search rules
+overflow_sub-next : tie.Need-overflow_sub-next
+overflow_sub-next c = search rules
 
 -- the test is of the partner, among the visible
-both : (c : tie.After-has) → bit c.before.before.args.vis (partner c.before.before.args.card) ≡ c.has.result
-both c = rw (← c.before.swap-suit.ensures) (sym c.has.ensures)
+both : (c : tie.After-has-has_both) → bit c.args.vis (partner c.args.card) ≡ c.has-has_both.result
+both c = rw (← c.swap_suit.ensures) (sym c.has-has_both.ensures)
+
+returns-then-has_both : tie.Need-returns-then-has_both
+unfolding tried_of
+returns-then-has_both c = rw (both c.before, c.if-has_both.true)
+
+has-requires : tie.Need-has-requires
+has-requires c κs = search rules
+
+returns-then-has : tie.Need-returns-then-has
+unfolding tried_of
+returns-then-has c =
+    rw (both c.before.before.before, c.if-has_both.false, ← c.has.ensures, c.if-has.true)
+
+swap_suit-requires-2 : tie.Need-swap_suit-requires-2
+swap_suit-requires-2 c κs = search rules
 
 returns : tie.Need-returns
 unfolding tried_of
-returns c = rw (both c.before, c.if1.true)
+returns c =
+    c.swap_suit-2.ensures ∙ rw (both c.before.before.before.before, c.if-has_both.false, ← c.has.ensures, c.if-has.false)
 
-has-requires-2 : tie.Need-has-requires-2
-has-requires-2 c κs = search rules
-
-returns-2 : tie.Need-returns-2
-unfolding tried_of
-returns-2 c =
-    rw (both c.before.before.before, c.before.before.if1.false, ← c.before.has2.ensures, c.if2.true)
-
-swap-suit-requires-2 : tie.Need-swap-suit-requires-2
-swap-suit-requires-2 c κs = search rules
-
-returns-3 : tie.Need-returns-3
-unfolding tried_of
-returns-3 c =
-    c.swap-suit2.ensures ∙ rw (both c.before.before.before.before, c.before.before.before.if1.false, ← c.before.before.has2.ensures, c.before.if2.false)
-
-pub next-card-spec : {M : Type 1} → statement M
-next-card-spec =
+pub next_card_spec : {M : Type 1} → statement M
+next_card_spec =
     tie.close
     (tie.spec
-    swap-suit-requires
+    swap_suit-requires
+    has-has_both-requires
+    overflow_sub-next
+    returns-then-has_both
     has-requires
-    sub-next
-    returns
-    has-requires-2
-    returns-2
-    swap-suit-requires-2
-    returns-3)
+    returns-then-has
+    swap_suit-requires-2
+    returns)

@@ -17,48 +17,48 @@ use borrow.Author.Rules.{rules}
 use Rattle.proper.proofs.gather.Statement.{statement}
 use Rattle.proper.proofs.gather.Tie as tie
 
-all-small-requires : tie.Need-all-small-requires
-all-small-requires c κs = search rules
+all_small-small-requires : tie.Need-all_small-small-requires
+all_small-small-requires c κs = search rules
 
-cards-from-requires : tie.Need-cards-from-requires
-cards-from-requires c κs = search rules
+cards_from-drawn-requires : tie.Need-cards_from-drawn-requires
+cards_from-drawn-requires c κs = search rules
 
-stock-requires : tie.Need-stock-requires
-stock-requires c κs = search rules
+stock-s-requires : tie.Need-stock-s-requires
+stock-s-requires c κs = search rules
 
-piles-requires : tie.Need-piles-requires
-piles-requires c κs = search rules
+piles-p-requires : tie.Need-piles-p-requires
+piles-p-requires c κs = search rules
 
-slice-aggregate-deck-follows : tie.Need-slice-aggregate-deck-follows
-slice-aggregate-deck-follows c = search rules
+slice_bounds-deck_follows-end : tie.Need-slice_bounds-deck_follows-end
+slice_bounds-deck_follows-end c = search rules
 
-deck-follows-requires : tie.Need-deck-follows-requires
-deck-follows-requires c κs = search rules
+deck_follows-requires : tie.Need-deck_follows-requires
+deck_follows-requires c κs = search rules
 
 returns : tie.Need-returns
 returns c =
-    let p = c.before.before.before.before.before in
-    let a = p.before.before.before.before.before.before.args in
+    let p = c.before in
+    let a = p.args in
     let d = a.deal.now in
-    let k = p.before.before.cards-from in
-    let s = p.before.stock in record {
-      right = ap₂ ◌&&◌ p.before.before.before.all_small.ensures (ap (λ (x : ℕ). eqb x 4503599627370495) (ap₂ bit_or p.piles.ensures.0 s.ensures.0 ∙ cards_join d 28 24)) ∙ deal_whole d;
+    let k = p.cards_from-drawn in
+    let s = p.stock-s in record {
+      right = ap₂ ◌&&◌ p.all_small-small.ensures (ap (λ (x : ℕ). eqb x 4503599627370495) (ap₂ bit_or p.piles-p.ensures.0 s.ensures.0 ∙ cards_join d 28 24)) ∙ deal_whole d;
       drawn = k.ensures;
       follows = λ t.
-          c.deck-follows.ensures
+          c.deck_follows.ensures
           ∙ ap (same_list (take a.left a.deck.now)) (s.ensures.2 (cards_low d (and_left (are_cards d) (are_different d) t)) ∙ ap (λ (m : ℕ). picked m (take 24 (drop 28 d))) k.ensures);
-      buried = p.piles.ensures.1;
-      heads = p.piles.ensures.2;
+      buried = p.piles-p.ensures.1;
+      heads = p.piles-p.ensures.2;
     }
 
-pub gather-spec : {M : Type 1} → statement M
-gather-spec =
+pub gather_spec : {M : Type 1} → statement M
+gather_spec =
     tie.close
     (tie.spec
-    all-small-requires
-    cards-from-requires
-    stock-requires
-    piles-requires
-    slice-aggregate-deck-follows
-    deck-follows-requires
+    all_small-small-requires
+    cards_from-drawn-requires
+    stock-s-requires
+    piles-p-requires
+    slice_bounds-deck_follows-end
+    deck_follows-requires
     returns)

@@ -24,132 +24,132 @@ use Rattle.proper.proofs.Cuts.{buried_turn, heads_turn, in_piles}
 use Rattle.proper.proofs.piles.Statement.{statement}
 use Rattle.proper.proofs.piles.Tie as tie
 
-abbrev invariant-loop : tie.invariant-loop
-invariant-loop deal counts run buried₀ heads₀ i₀ buried heads i = (i ≤ 7) × ((k : ℕ) → k ≤ 28 → get_or run k 0 ≡ cards_from deal 0 k) × (IsDeal deal → buried ≡ fronts deal (λ j. get_or counts j 0 - 1) i) × (IsDeal deal → heads ≡ tops (λ j. ltb 0 (get_or counts j 0)) (λ j. placed deal j (get_or counts j 0 - 1)) i)
+abbrev invariant-loop-i : tie.invariant-loop-i
+invariant-loop-i deal counts run buried₀ heads₀ i₀ buried heads i = (i ≤ 7) × ((k : ℕ) → k ≤ 28 → get_or run k 0 ≡ cards_from deal 0 k) × (IsDeal deal → buried ≡ fronts deal (λ j. get_or counts j 0 - 1) i) × (IsDeal deal → heads ≡ tops (λ j. ltb 0 (get_or counts j 0)) (λ j. placed deal j (get_or counts j 0 - 1)) i)
 
-abbrev decreases-loop : tie.decreases-loop
-decreases-loop deal counts run buried₀ heads₀ i₀ buried heads i = 7 - i
+abbrev decreases-loop-i : tie.decreases-loop-i
+decreases-loop-i deal counts run buried₀ heads₀ i₀ buried heads i = 7 - i
 
-running-requires : tie.Need-running-requires invariant-loop decreases-loop
-running-requires c κs = search rules
+running-run-requires : tie.Need-running-run-requires invariant-loop-i decreases-loop-i
+running-run-requires c κs = search rules
 
 -- the pile's count, and its places
-abbrev count_of : tie.After-n invariant-loop decreases-loop → ℕ
-count_of c = get_or c.before.before.before.before.before.before.args.counts.now c.before.before.before.loop.i 0
+abbrev count_of : tie.After-pile_start-start invariant-loop-i decreases-loop-i → ℕ
+count_of c = get_or c.args.counts.now c.loop-i.i 0
 
-fits : (c : tie.After-n invariant-loop decreases-loop) → count_of c ≤ c.before.before.before.loop.i + 1
-fits c = c.before.before.before.before.before.before.requires.1 c.before.before.before.loop.i c.before.before.loop-test.true
+fits : (c : tie.After-pile_start-start invariant-loop-i decreases-loop-i) → count_of c ≤ c.loop-i.i + 1
+fits c = c.requires.1 c.loop-i.i c.loop-i-test.true
 
-bound : (c : tie.After-n invariant-loop decreases-loop) → c.before.pile-start.result + count_of c ≤ 28
-bound c = in_piles c.before.before.before.loop.i (count_of c) c.before.pile-start.result c.before.before.loop-test.true (fits c) c.before.pile-start.ensures
+bound : (c : tie.After-pile_start-start invariant-loop-i decreases-loop-i) → c.pile_start-start.result + count_of c ≤ 28
+bound c = in_piles c.loop-i.i (count_of c) c.pile_start-start.result c.loop-i-test.true (fits c) c.pile_start-start.ensures
 
-loop-holds : tie.Need-loop-init invariant-loop decreases-loop
+loop-i-init : tie.Need-loop-i-init invariant-loop-i decreases-loop-i
 unfolding mask_of any_of
-loop-holds c = (omega arith, c.running.ensures, λ t. refl, λ t. refl)
+loop-i-init c = (omega arith, c.running-run.ensures, λ t. refl, λ t. refl)
 
-pile-start-requires : tie.Need-pile-start-requires invariant-loop decreases-loop
-pile-start-requires c κs = search rules
+pile_start-start-requires : tie.Need-pile_start-start-requires invariant-loop-i decreases-loop-i
+pile_start-start-requires c κs = search rules
 
-cast-start : tie.Need-overflow-cast-start invariant-loop decreases-loop
-cast-start c = search rules
+overflow_cast-start : tie.Need-overflow_cast-start invariant-loop-i decreases-loop-i
+overflow_cast-start c = search rules
 
-element-copy-out-n : tie.Need-element-copy-out-n invariant-loop decreases-loop
-element-copy-out-n c = search rules
+bounds-counts-i : tie.Need-bounds-counts-i invariant-loop-i decreases-loop-i
+bounds-counts-i c = search rules
 
-cast-n : tie.Need-overflow-cast-n invariant-loop decreases-loop
-cast-n c = omega (arith, fits c, c.before.before.loop-test.true)
+overflow_cast-n : tie.Need-overflow_cast-n invariant-loop-i decreases-loop-i
+overflow_cast-n c = omega (arith, fits c.before.before, c.loop-i-test.true)
 
-add-under : tie.Need-overflow-add-under invariant-loop decreases-loop
-add-under c = omega (arith, bound c)
+overflow_add-under : tie.Need-overflow_add-under invariant-loop-i decreases-loop-i
+overflow_add-under c = omega (arith, bound c.before.before)
 
-cast-under : tie.Need-overflow-cast-under invariant-loop decreases-loop
-cast-under c = search rules
+overflow_cast-under : tie.Need-overflow_cast-under invariant-loop-i decreases-loop-i
+overflow_cast-under c = search rules
 
-sub-under : tie.Need-overflow-sub-under invariant-loop decreases-loop
-sub-under c = omega (arith, bound c, some_le 0 (count_of c))
+overflow_sub-under : tie.Need-overflow_sub-under invariant-loop-i decreases-loop-i
+overflow_sub-under c = omega (arith, bound c.before.before, some_le 0 (count_of c.before.before))
 
-mul-under : tie.Need-overflow-mul-under invariant-loop decreases-loop
-mul-under c = omega (arith, bound c)
+offset_bounds-run-start : tie.Need-offset_bounds-run-start invariant-loop-i decreases-loop-i
+offset_bounds-run-start c = omega (arith, bound c.before.before)
 
-array-read-under : tie.Need-array-read-under invariant-loop decreases-loop
-array-read-under c = omega (arith, bound c)
+bounds-run-start : tie.Need-bounds-run-start invariant-loop-i decreases-loop-i
+bounds-run-start c = omega (arith, bound c.before.before)
 
-mul-buried : tie.Need-overflow-mul-buried invariant-loop decreases-loop
-mul-buried c = omega (arith, bound c)
+offset_bounds-run-start-in-loop-i : tie.Need-offset_bounds-run-start-in-loop-i invariant-loop-i decreases-loop-i
+offset_bounds-run-start-in-loop-i c = omega (arith, bound c.before.before)
 
-array-read-buried : tie.Need-array-read-buried invariant-loop decreases-loop
-array-read-buried c = omega (arith, bound c)
+bounds-run-start-in-loop-i : tie.Need-bounds-run-start-in-loop-i invariant-loop-i decreases-loop-i
+bounds-run-start-in-loop-i c = omega (arith, bound c.before.before)
 
-add-heads : tie.Need-overflow-add-heads invariant-loop decreases-loop
-add-heads c = omega (arith, bound c)
+overflow_add-heads : tie.Need-overflow_add-heads invariant-loop-i decreases-loop-i
+overflow_add-heads c = omega (arith, bound c.before.before)
 
-mul-heads : tie.Need-overflow-mul-heads invariant-loop decreases-loop
-mul-heads c = omega (arith, bound c)
+offset_bounds-run-start-in-loop-i-2 : tie.Need-offset_bounds-run-start-in-loop-i-2 invariant-loop-i decreases-loop-i
+offset_bounds-run-start-in-loop-i-2 c = omega (arith, bound c.before.before)
 
-array-read-heads : tie.Need-array-read-heads invariant-loop decreases-loop
-array-read-heads c = omega (arith, bound c)
+bounds-run-start-in-loop-i-2 : tie.Need-bounds-run-start-in-loop-i-2 invariant-loop-i decreases-loop-i
+bounds-run-start-in-loop-i-2 c = omega (arith, bound c.before.before)
 
-add-i : tie.Need-overflow-add-i invariant-loop decreases-loop
-add-i c = search rules
+overflow_add-i : tie.Need-overflow_add-i invariant-loop-i decreases-loop-i
+overflow_add-i c = search rules
 
-loop-less : tie.Need-loop-smaller invariant-loop decreases-loop
-loop-less c = search rules
+loop-i-smaller : tie.Need-loop-i-smaller invariant-loop-i decreases-loop-i
+loop-i-smaller c = search rules
 
-loop-again : tie.Need-loop-preserved invariant-loop decreases-loop
-loop-again c =
-    let b = c.before.before.before in
-    let a = b.before.before.before.args in
+loop-i-preserved : tie.Need-loop-i-preserved invariant-loop-i decreases-loop-i
+loop-i-preserved c =
+    let b = c.before in
+    let a = b.args in
     let d = a.deal.now in
-    let n = count_of c in
-    let s = c.before.pile-start.result in
-    let r = b.before.running.result in
-    let run = b.loop.invariant.1 in
+    let n = count_of c.before.before in
+    let s = c.pile_start-start.result in
+    let r = b.running-run.result in
+    let run = b.loop-i.invariant.1 in
     let m : ℕ → ℕ = λ j. get_or a.counts.now j 0 - 1 in
     let f : ℕ → ℕ → Bool = λ k j. ltb 0 (get_or a.counts.now j 0) && eqb (placed d j (get_or a.counts.now j 0 - 1)) k in (
       omega arith,
       run,
-      λ t. rw (b.loop.invariant.2 t) (fronts_step d m b.loop.i s (n - 1) (bit_xor (get_or r (s + n - bool_byte (ltb 0 n)) 0) (get_or r s 0)) (cards_low d (and_left (are_cards d) (are_different d) t)) c.before.before.loop-test.true (omega (arith, fits c)) c.before.pile-start.ensures refl
-          (buried_turn d (cards_low d (and_left (are_cards d) (are_different d) t)) (different_inj d (and_right (are_cards d) (are_different d) t)) r run s n (bound c))),
-      λ t. ap₂ bit_or (b.loop.invariant.3 t)
-          (heads_turn d (cards_low d (and_left (are_cards d) (are_different d) t)) (different_inj d (and_right (are_cards d) (are_different d) t)) r run s n (bound c)
-          ∙ ap (λ (u : ℕ). mask_of 52 (λ k. ltb 0 n && eqb (get_or d (u + (n - 1)) 0) k)) c.before.pile-start.ensures)
-          ∙ or_masks 52 (λ k. any_of b.loop.i (f k)) (λ k. f k b.loop.i) ∙ mask_ext 52 (λ k. any_of b.loop.i (f k) || f k b.loop.i) (λ k. any_of (b.loop.i + 1) (f k)) (λ k q. sym (any_more b.loop.i (f k))),
+      λ t. rw (b.loop-i.invariant.2 t) (fronts_step d m b.loop-i.i s (n - 1) (bit_xor (get_or r (s + n - bool_byte (ltb 0 n)) 0) (get_or r s 0)) (cards_low d (and_left (are_cards d) (are_different d) t)) c.loop-i-test.true (omega (arith, fits c.before.before)) c.pile_start-start.ensures refl
+          (buried_turn d (cards_low d (and_left (are_cards d) (are_different d) t)) (different_inj d (and_right (are_cards d) (are_different d) t)) r run s n (bound c.before.before))),
+      λ t. ap₂ bit_or (b.loop-i.invariant.3 t)
+          (heads_turn d (cards_low d (and_left (are_cards d) (are_different d) t)) (different_inj d (and_right (are_cards d) (are_different d) t)) r run s n (bound c.before.before)
+          ∙ ap (λ (u : ℕ). mask_of 52 (λ k. ltb 0 n && eqb (get_or d (u + (n - 1)) 0) k)) c.pile_start-start.ensures)
+          ∙ or_masks 52 (λ k. any_of b.loop-i.i (f k)) (λ k. f k b.loop-i.i) ∙ mask_ext 52 (λ k. any_of b.loop-i.i (f k) || f k b.loop-i.i) (λ k. any_of (b.loop-i.i + 1) (f k)) (λ k q. sym (any_more b.loop-i.i (f k))),
     )
 
-array-read-t29 : tie.Need-array-read-t29 invariant-loop decreases-loop
-array-read-t29 c = search rules
+bounds-run-28 : tie.Need-bounds-run-28 invariant-loop-i decreases-loop-i
+bounds-run-28 c = search rules
 
-returns : tie.Need-returns invariant-loop decreases-loop
+returns : tie.Need-returns invariant-loop-i decreases-loop-i
 unfolding buried_in head_in
 returns c =
-    let l = c.before.loop in
+    let l = c.loop-i in
     let e : l.i ≡ 7 = omega arith in
     (l.invariant.1 28 (omega arith), λ t. rw e at (l.invariant.2 t), λ t. rw e at (l.invariant.3 t))
 
-pub piles-spec : {M : Type 1} → statement M
-piles-spec =
+pub piles_spec : {M : Type 1} → statement M
+piles_spec =
     tie.close
     (tie.spec
-    invariant-loop
-    decreases-loop
-    running-requires
-    loop-holds
-    pile-start-requires
-    cast-start
-    element-copy-out-n
-    cast-n
-    add-under
-    cast-under
-    sub-under
-    mul-under
-    array-read-under
-    mul-buried
-    array-read-buried
-    add-heads
-    mul-heads
-    array-read-heads
-    add-i
-    loop-less
-    loop-again
-    array-read-t29
+    invariant-loop-i
+    decreases-loop-i
+    running-run-requires
+    loop-i-init
+    pile_start-start-requires
+    overflow_cast-start
+    bounds-counts-i
+    overflow_cast-n
+    overflow_add-under
+    overflow_cast-under
+    overflow_sub-under
+    offset_bounds-run-start
+    bounds-run-start
+    offset_bounds-run-start-in-loop-i
+    bounds-run-start-in-loop-i
+    overflow_add-heads
+    offset_bounds-run-start-in-loop-i-2
+    bounds-run-start-in-loop-i-2
+    overflow_add-i
+    loop-i-smaller
+    loop-i-preserved
+    bounds-run-28
     returns)

@@ -19,53 +19,53 @@ use borrow.Author.Rules.{rules}
 use Rattle.proper.proofs.stock.Statement.{statement}
 use Rattle.proper.proofs.stock.Tie as tie
 
-abbrev invariant-loop : tie.invariant-loop
-invariant-loop deal mask all₀ cards₀ n₀ k₀ all cards n k = (n ≤ k) × (k ≤ 24) × (all ≡ cards_from deal 28 k) × (length cards ≡ 24) × (CardsFit deal → take n cards ≡ picked mask (take k (take 24 (drop 28 deal))))
+abbrev invariant-loop-k : tie.invariant-loop-k
+invariant-loop-k deal mask all₀ cards₀ n₀ k₀ all cards n k = (n ≤ k) × (k ≤ 24) × (all ≡ cards_from deal 28 k) × (length cards ≡ 24) × (CardsFit deal → take n cards ≡ picked mask (take k (take 24 (drop 28 deal))))
 
-abbrev decreases-loop : tie.decreases-loop
-decreases-loop deal mask all₀ cards₀ n₀ k₀ all cards n k = 24 - k
+abbrev decreases-loop-k : tie.decreases-loop-k
+decreases-loop-k deal mask all₀ cards₀ n₀ k₀ all cards n k = 24 - k
 
-loop-holds : tie.Need-loop-init invariant-loop decreases-loop
+loop-k-init : tie.Need-loop-k-init invariant-loop-k decreases-loop-k
 unfolding cards_from mask_of any_of picked
-loop-holds c = (omega arith, omega arith, refl, refl, λ h. refl)
+loop-k-init c = (omega arith, omega arith, refl, refl, λ h. refl)
 
-add-c : tie.Need-overflow-add-c invariant-loop decreases-loop
-add-c c = search rules
+overflow_add-c : tie.Need-overflow_add-c invariant-loop-k decreases-loop-k
+overflow_add-c c = search rules
 
-shared-slice-read-c : tie.Need-shared-slice-read-c invariant-loop decreases-loop
-shared-slice-read-c c = search rules
+bounds-deal-k : tie.Need-bounds-deal-k invariant-loop-k decreases-loop-k
+bounds-deal-k c = search rules
 
-cast-all : tie.Need-overflow-cast-all invariant-loop decreases-loop
-cast-all c = omega (arith, low_six (get_or c.before.before.before.args.deal.now (28 + c.before.before.loop.k) 0))
+overflow_cast-all : tie.Need-overflow_cast-all invariant-loop-k decreases-loop-k
+overflow_cast-all c = omega (arith, low_six (get_or c.args.deal.now (28 + c.loop-k.k) 0))
 
-shl-all : tie.Need-overflow-shl-all invariant-loop decreases-loop
-shl-all c = low_six (get_or c.before.before.before.args.deal.now (28 + c.before.before.loop.k) 0)
+overflow_shl-all : tie.Need-overflow_shl-all invariant-loop-k decreases-loop-k
+overflow_shl-all c = low_six (get_or c.args.deal.now (28 + c.loop-k.k) 0)
 
-array-write-cards : tie.Need-array-write-cards invariant-loop decreases-loop
-array-write-cards c = search rules
+bounds-cards-n : tie.Need-bounds-cards-n invariant-loop-k decreases-loop-k
+bounds-cards-n c = search rules
 
-cast-n : tie.Need-overflow-cast-n invariant-loop decreases-loop
-cast-n c = omega (arith, low_six (get_or c.before.before.before.args.deal.now (28 + c.before.before.loop.k) 0))
+overflow_cast-n : tie.Need-overflow_cast-n invariant-loop-k decreases-loop-k
+overflow_cast-n c = omega (arith, low_six (get_or c.args.deal.now (28 + c.loop-k.k) 0))
 
-shr-n : tie.Need-overflow-shr-n invariant-loop decreases-loop
-shr-n c = low_six (get_or c.before.before.before.args.deal.now (28 + c.before.before.loop.k) 0)
+overflow_shr-n : tie.Need-overflow_shr-n invariant-loop-k decreases-loop-k
+overflow_shr-n c = low_six (get_or c.args.deal.now (28 + c.loop-k.k) 0)
 
-add-n : tie.Need-overflow-add-n invariant-loop decreases-loop
-add-n c = let b = c.before.before in omega (arith, and_le_r (b.before.args.mask / 2 ^ bit_and (get_or b.before.args.deal.now (28 + b.loop.k) 0) 63) 1)
+overflow_add-n : tie.Need-overflow_add-n invariant-loop-k decreases-loop-k
+overflow_add-n c = let b = c.before in omega (arith, and_le_r (b.args.mask / 2 ^ bit_and (get_or b.args.deal.now (28 + b.loop-k.k) 0) 63) 1)
 
-add-k : tie.Need-overflow-add-k invariant-loop decreases-loop
-add-k c = search rules
+overflow_add-k : tie.Need-overflow_add-k invariant-loop-k decreases-loop-k
+overflow_add-k c = search rules
 
-loop-less : tie.Need-loop-smaller invariant-loop decreases-loop
-loop-less c = search rules
+loop-k-smaller : tie.Need-loop-k-smaller invariant-loop-k decreases-loop-k
+loop-k-smaller c = search rules
 
-loop-again : tie.Need-loop-preserved invariant-loop decreases-loop
-loop-again c =
-    let b = c.before.before in
-    let l = b.loop in
-    let d = b.before.args.deal.now in
-    let m = b.before.args.mask in
-    let ld : length d ≡ 52 = b.before.requires in
+loop-k-preserved : tie.Need-loop-k-preserved invariant-loop-k decreases-loop-k
+loop-k-preserved c =
+    let b = c.before in
+    let l = b.loop-k in
+    let d = b.args.deal.now in
+    let m = b.args.mask in
+    let ld : length d ≡ 52 = b.requires in
     let x = bit_and (get_or d (28 + l.k) 0) 63 in (
       omega (arith, and_le_r (m / 2 ^ x) 1),
       omega arith,
@@ -79,30 +79,30 @@ loop-again c =
           ∙ pick_step m (take 24 (drop 28 d)) l.cards l.n l.k x (omega (arith, stock_length d ld)) (y ∙ stock_at d ld l.k (omega arith)) (omega (arith, l.invariant.3)) (l.invariant.4 fit),
     )
 
-returns : tie.Need-returns invariant-loop decreases-loop
+returns : tie.Need-returns invariant-loop-k decreases-loop-k
 returns c =
-    let l = c.before.loop in
-    let d = c.before.before.args.deal.now in
-    let ld : length d ≡ 52 = c.before.before.requires in
+    let l = c.loop-k in
+    let d = c.args.deal.now in
+    let ld : length d ≡ 52 = c.requires in
     let e : l.k ≡ 24 = omega arith in
-    (l.invariant.2 ∙ ap (cards_from d 28) e, omega arith, λ fit. l.invariant.4 fit ∙ ap (λ (i : ℕ). picked c.before.before.args.mask (take i (take 24 (drop 28 d)))) e ∙ ap (picked c.before.before.args.mask) (take_all 24 (take 24 (drop 28 d)) (omega (arith, stock_length d ld))))
+    (l.invariant.2 ∙ ap (cards_from d 28) e, omega arith, λ fit. l.invariant.4 fit ∙ ap (λ (i : ℕ). picked c.args.mask (take i (take 24 (drop 28 d)))) e ∙ ap (picked c.args.mask) (take_all 24 (take 24 (drop 28 d)) (omega (arith, stock_length d ld))))
 
-pub stock-spec : {M : Type 1} → statement M
-stock-spec =
+pub stock_spec : {M : Type 1} → statement M
+stock_spec =
     tie.close
     (tie.spec
-    invariant-loop
-    decreases-loop
-    loop-holds
-    add-c
-    shared-slice-read-c
-    cast-all
-    shl-all
-    array-write-cards
-    cast-n
-    shr-n
-    add-n
-    add-k
-    loop-less
-    loop-again
+    invariant-loop-k
+    decreases-loop-k
+    loop-k-init
+    overflow_add-c
+    bounds-deal-k
+    overflow_cast-all
+    overflow_shl-all
+    bounds-cards-n
+    overflow_cast-n
+    overflow_shr-n
+    overflow_add-n
+    overflow_add-k
+    loop-k-smaller
+    loop-k-preserved
     returns)

@@ -6,21 +6,28 @@ use Rattle.rules.specs.History.{entry}
 use Rattle.play.proofs.entries.entry.Statement.{statement}
 use Rattle.play.proofs.entries.entry.Tie as tie
 
-mul-result : tie.Need-overflow-mul-result
-mul-result c = search rules
+overflow_mul-result : tie.Need-overflow_mul-result
+overflow_mul-result c = search rules
 
-mul-result-2 : tie.Need-overflow-mul-result-2
-mul-result-2 c = search rules
+overflow_mul-result-2 : tie.Need-overflow_mul-result-2
+overflow_mul-result-2 c = search rules
 
-add-result : tie.Need-overflow-add-result
-add-result c = search rules
+overflow_add-result : tie.Need-overflow_add-result
+overflow_add-result c = search rules
 
-add-result-2 : tie.Need-overflow-add-result-2
-add-result-2 c = search rules
+overflow_add-result-2 : tie.Need-overflow_add-result-2
+overflow_add-result-2 c = search rules
 
 returns : tie.Need-returns
 unfolding entry
 returns c = refl
 
 pub entry_spec : {M : Type 1} → statement M
-entry_spec = tie.close (tie.spec mul-result mul-result-2 add-result add-result-2 returns)
+entry_spec =
+    tie.close
+    (tie.spec
+    overflow_mul-result
+    overflow_mul-result-2
+    overflow_add-result
+    overflow_add-result-2
+    returns)

@@ -22,77 +22,77 @@ use Rattle.play.proofs.entries.leads_to.Tie as tie
 
 -- ---- the way back from each test to the one before it, and to what was given
 
-abbrev begun : tie.Else1 → tie.Start
+abbrev begun : tie.Else-not-is_proper → tie.Start
 begun c = c.before.before
 
-abbrev allowed : tie.Else2 → tie.Else1
+abbrev allowed : tie.Else-not-is_valid_move → tie.Else-not-is_proper
 allowed c = c.before.before
 
-abbrev moved : tie.After-struct-known → tie.Else2
+abbrev moved : tie.After-struct_known-1 → tie.Else-not-is_valid_move
 moved c = c.before.before
 
-abbrev of-2 : tie.Else2 → tie.Start
+abbrev of-2 : tie.Else-not-is_valid_move → tie.Start
 of-2 c = begun (allowed c)
 
 -- ---- the tests that are passed
 
-fair : (c : tie.Else1) → proper (begun c).args.q ≡ true
-fair c = granted c.before.is-proper.ensures c.if1.false
+fair : (c : tie.Else-not-is_proper) → proper (begun c).args.q ≡ true
+fair c = granted c.is_proper.ensures c.if-not-is_proper.false
 
-may : (c : tie.Else2) → legal (of-2 c).args.q (of-2 c).args.kind (of-2 c).args.card ≡ true
-may c = granted c.before.is-valid-move.ensures c.if2.false
+may : (c : tie.Else-not-is_valid_move) → legal (of-2 c).args.q (of-2 c).args.kind (of-2 c).args.card ≡ true
+may c = granted c.is_valid_move.ensures c.if-not-is_valid_move.false
 
 -- ---- each test in turn
 
-is-proper-requires : tie.Need-is-proper-requires
-is-proper-requires c κs = search rules
+is_proper-requires : tie.Need-is_proper-requires
+is_proper-requires c κs = search rules
 
-returns : tie.Need-returns
+returns-then-not-is_proper : tie.Need-returns-then-not-is_proper
 unfolding leads_to
-returns c = rw (denied c.before.is-proper.ensures c.if1.true)
+returns-then-not-is_proper c = rw (denied c.is_proper.ensures c.if-not-is_proper.true)
 
-is-valid-move-requires : tie.Need-is-valid-move-requires
-is-valid-move-requires c κs = (true-T _ (fair c), (begun c).requires.0, (begun c).requires.1)
+is_valid_move-requires : tie.Need-is_valid_move-requires
+is_valid_move-requires c κs = (true-T _ (fair c), (begun c).requires.0, (begun c).requires.1)
 
-returns-2 : tie.Need-returns-2
+returns-then-not-is_valid_move : tie.Need-returns-then-not-is_valid_move
 unfolding leads_to
-returns-2 c = rw (fair c.before.before, denied c.before.is-valid-move.ensures c.if2.true)
+returns-then-not-is_valid_move c = rw (fair c.before, denied c.is_valid_move.ensures c.if-not-is_valid_move.true)
 
-do-move-requires : tie.Need-do-move-requires
-do-move-requires c κs = (true-T _ (fair (allowed c)), true-T _ (may c))
+do_move-again-requires : tie.Need-do_move-again-requires
+do_move-again-requires c κs = (true-T _ (fair (allowed c)), true-T _ (may c))
 
-returns-3 : tie.Need-returns-3
+returns-then-again-byte : tie.Need-returns-then-again-byte
 unfolding leads_to made
-returns-3 c =
+returns-then-again-byte c =
     let e = moved c.before in
     let byte = (of-2 e).args.byte in
-    rw (fair (allowed e), may e, ap (λ (x : Made). eqb x.byte byte) (sym c.before.before.do-move.ensures) ∙ ne_eqb _ _ c.if3.true)
+    rw (fair (allowed e), may e, ap (λ (x : Made). eqb x.byte byte) (sym c.do_move-again.ensures) ∙ ne_eqb _ _ c.if-again-byte.true)
 
-same-in-deal-requires : tie.Need-same-in-deal-requires
-same-in-deal-requires c κs =
+same_in_deal-requires : tie.Need-same_in_deal-requires
+same_in_deal-requires c κs =
     let b = of-2 (moved c.before.before) in
-    (facts b.args.p b.pre.2).left
+    (facts b.args.p b.requires.2).left
 
-returns-4 : tie.Need-returns-4
+returns : tie.Need-returns
 unfolding leads_to made
-returns-4 c =
-    let f = c.before.before in
-    let e = moved f.before in
-    let m = f.before.before.do-move.ensures in
+returns c =
+    let f = c.before in
+    let e = moved f.before.before in
+    let m = f.do_move-again.ensures in
     let b = of-2 e in
     let a = b.args in
-    rw (fair (allowed e), may e, ap (λ (x : Made). eqb x.byte a.byte) (sym m) ∙ eq-eqb _ _ f.if3.false)
-    (c.same-in-deal.ensures ∙ ap (λ (x : Made). same_in_deal x.position a.p) m ∙ sym (same_is (after a.q a.kind a.card) a.p (after_deal a.q a.kind a.card ∙ b.pre.3)))
+    rw (fair (allowed e), may e, ap (λ (x : Made). eqb x.byte a.byte) (sym m) ∙ eq-eqb _ _ f.if-again-byte.false)
+    (c.same_in_deal.ensures ∙ ap (λ (x : Made). same_in_deal x.position a.p) m ∙ sym (same_is (after a.q a.kind a.card) a.p (after_deal a.q a.kind a.card ∙ b.requires.3)))
 
-pub leads-to-spec : {M : Type 1} → statement M
-leads-to-spec =
+pub leads_to_spec : {M : Type 1} → statement M
+leads_to_spec =
     tie.close
     (tie.spec
-    is-proper-requires
-    returns
-    is-valid-move-requires
-    returns-2
-    do-move-requires
-    returns-3
-    same-in-deal-requires
-    returns-4)
+    is_proper-requires
+    returns-then-not-is_proper
+    is_valid_move-requires
+    returns-then-not-is_valid_move
+    do_move-again-requires
+    returns-then-again-byte
+    same_in_deal-requires
+    returns)

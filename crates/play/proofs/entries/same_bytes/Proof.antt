@@ -10,57 +10,57 @@ use Rattle.play.proofs.Same.{bytes_same, bytes_differ}
 use Rattle.play.proofs.entries.same_bytes.Statement.{statement}
 use Rattle.play.proofs.entries.same_bytes.Tie as tie
 
-abbrev invariant-loop : tie.invariant-loop
-invariant-loop a b n i₀ i = (i ≤ n) × ((k : ℕ) → k < i → get_or a k 0 ≡ get_or b k 0)
+abbrev invariant-loop-i : tie.invariant-loop-i
+invariant-loop-i a b n i₀ i = (i ≤ n) × ((k : ℕ) → k < i → get_or a k 0 ≡ get_or b k 0)
 
-abbrev decreases-loop : tie.decreases-loop
-decreases-loop a b n i₀ i = n - i
+abbrev decreases-loop-i : tie.decreases-loop-i
+decreases-loop-i a b n i₀ i = n - i
 
 -- the way back to the head of the loop
-abbrev turn : (c : tie.After-shared-slice-known2 invariant-loop decreases-loop) → tie.At-loop invariant-loop decreases-loop
+abbrev turn : (c : tie.After-shared_slice_known-in-loop-i-1 invariant-loop-i decreases-loop-i) → tie.At-loop-i invariant-loop-i decreases-loop-i
 turn c = c.before.before.before
 
-loop-holds : tie.Need-loop-init invariant-loop decreases-loop
-loop-holds c = search rules
+loop-i-init : tie.Need-loop-i-init invariant-loop-i decreases-loop-i
+loop-i-init c = search rules
 
-shared-slice-read-if1 : tie.Need-shared-slice-read-if1 invariant-loop decreases-loop
-shared-slice-read-if1 c = omega arith
+bounds-a-i : tie.Need-bounds-a-i invariant-loop-i decreases-loop-i
+bounds-a-i c = omega arith
 
-shared-slice-read-if1-2 : tie.Need-shared-slice-read-if1-2 invariant-loop decreases-loop
-shared-slice-read-if1-2 c = omega arith
+bounds-b-i : tie.Need-bounds-b-i invariant-loop-i decreases-loop-i
+bounds-b-i c = omega arith
 
-returns : tie.Need-returns invariant-loop decreases-loop
-returns c =
+returns-then-a-i : tie.Need-returns-then-a-i invariant-loop-i decreases-loop-i
+returns-then-a-i c =
     let l = turn c.before in
     let b = l.before in
-    sym (bytes_differ b.args.a.now b.args.b.now b.args.n b.pre.0 b.pre.1 l.loop.i (omega arith) c.if1.true)
+    sym (bytes_differ b.args.a.now b.args.b.now b.args.n b.requires.0 b.requires.1 l.loop-i.i (omega arith) c.if-a-i.true)
 
-add-i : tie.Need-overflow-add-i invariant-loop decreases-loop
-add-i c = omega arith
+overflow_add-i : tie.Need-overflow_add-i invariant-loop-i decreases-loop-i
+overflow_add-i c = omega arith
 
-loop-less : tie.Need-loop-smaller invariant-loop decreases-loop
-loop-less c = omega arith
+loop-i-smaller : tie.Need-loop-i-smaller invariant-loop-i decreases-loop-i
+loop-i-smaller c = omega arith
 
-loop-again : tie.Need-loop-preserved invariant-loop decreases-loop
-loop-again c = (omega arith, below_more _ _ (turn c.before).loop.inv.1 c.if1.false)
+loop-i-preserved : tie.Need-loop-i-preserved invariant-loop-i decreases-loop-i
+loop-i-preserved c = (omega arith, below_more _ _ (turn c.before).loop-i.inv.1 c.if-a-i.false)
 
-returns-2 : tie.Need-returns-2 invariant-loop decreases-loop
-returns-2 c =
+returns : tie.Need-returns invariant-loop-i decreases-loop-i
+returns c =
     let l = c.before in
     let b = l.before in
-    sym (bytes_same b.args.a.now b.args.b.now b.args.n b.requires.0 b.requires.1 (λ k m. l.loop.invariant.1 k (omega arith)))
+    sym (bytes_same b.args.a.now b.args.b.now b.args.n b.requires.0 b.requires.1 (λ k m. l.loop-i.invariant.1 k (omega arith)))
 
-pub same-bytes-spec : {M : Type 1} → statement M
-same-bytes-spec =
+pub same_bytes_spec : {M : Type 1} → statement M
+same_bytes_spec =
     tie.close
     (tie.spec
-    invariant-loop
-    decreases-loop
-    loop-holds
-    shared-slice-read-if1
-    shared-slice-read-if1-2
-    returns
-    add-i
-    loop-less
-    loop-again
-    returns-2)
+    invariant-loop-i
+    decreases-loop-i
+    loop-i-init
+    bounds-a-i
+    bounds-b-i
+    returns-then-a-i
+    overflow_add-i
+    loop-i-smaller
+    loop-i-preserved
+    returns)

@@ -13,103 +13,103 @@ use Rattle.play.proofs.entries.same_in_deal.Tie as tie
 
 -- ---- the way back from each test to the one before it, and to the two positions
 
-abbrev begun : tie.Else1 → tie.Start
+abbrev begun : tie.Else-p-q → tie.Start
 begun c = c.before.before.before
 
-abbrev counted : tie.Else2 → tie.Else1
+abbrev counted : tie.Else-not-same_counts → tie.Else-p-q
 counted c = c.before.before
 
-abbrev raised : tie.Else3 → tie.Else2
+abbrev raised : tie.Else-not-same_heights → tie.Else-not-same_counts
 raised c = c.before.before
 
-abbrev drawn : tie.Else4 → tie.Else3
+abbrev drawn : tie.Else-not-same_deck → tie.Else-not-same_heights
 drawn c = c.before.before
 
-abbrev turned : tie.Else5 → tie.Else4
+abbrev turned : tie.Else-p-q-2 → tie.Else-not-same_deck
 turned c = c.before.before.before
 
-abbrev of-2 : tie.Else2 → tie.Start
+abbrev of-2 : tie.Else-not-same_counts → tie.Start
 of-2 c = begun (counted c)
 
-abbrev of-3 : tie.Else3 → tie.Start
+abbrev of-3 : tie.Else-not-same_heights → tie.Start
 of-3 c = of-2 (raised c)
 
-abbrev of-4 : tie.Else4 → tie.Start
+abbrev of-4 : tie.Else-not-same_deck → tie.Start
 of-4 c = of-3 (drawn c)
 
 -- ---- the tests that are passed
 
-step : (c : tie.Else1) → eqb (begun c).args.p.step (begun c).args.q.step ≡ true
-step c = eq-eqb _ _ c.if1.false
+step : (c : tie.Else-p-q) → eqb (begun c).args.p.step (begun c).args.q.step ≡ true
+step c = eq-eqb _ _ c.if-p-q.false
 
-counts : (c : tie.Else2) → same_list (of-2 c).args.p.counts (of-2 c).args.q.counts ≡ true
-counts c = granted c.before.same-counts.ensures c.if2.false
+counts : (c : tie.Else-not-same_counts) → same_list (of-2 c).args.p.counts (of-2 c).args.q.counts ≡ true
+counts c = granted c.same_counts.ensures c.if-not-same_counts.false
 
-heights : (c : tie.Else3) → same_list (of-3 c).args.p.heights (of-3 c).args.q.heights ≡ true
-heights c = granted c.before.same-heights.ensures c.if3.false
+heights : (c : tie.Else-not-same_heights) → same_list (of-3 c).args.p.heights (of-3 c).args.q.heights ≡ true
+heights c = granted c.same_heights.ensures c.if-not-same_heights.false
 
-deck : (c : tie.Else4) → same_deck (of-4 c).args.p (of-4 c).args.q ≡ true
-deck c = granted c.before.same-deck.ensures c.if4.false
+deck : (c : tie.Else-not-same_deck) → same_deck (of-4 c).args.p (of-4 c).args.q ≡ true
+deck c = granted c.same_deck.ensures c.if-not-same_deck.false
 
 -- ---- each test in turn
 
-returns : tie.Need-returns
+returns-then-p-q : tie.Need-returns-then-p-q
 unfolding same_in_deal
-returns c = rw (ne_eqb _ _ c.if1.true)
+returns-then-p-q c = rw (ne_eqb _ _ c.if-p-q.true)
 
-same-counts-requires : tie.Need-same-counts-requires
-same-counts-requires c κs = search rules
+same_counts-requires : tie.Need-same_counts-requires
+same_counts-requires c κs = search rules
 
-returns-2 : tie.Need-returns-2
+returns-then-not-same_counts : tie.Need-returns-then-not-same_counts
 unfolding same_in_deal
-returns-2 c = rw (step c.before.before, denied c.before.same-counts.ensures c.if2.true)
+returns-then-not-same_counts c = rw (step c.before.before, denied c.same_counts.ensures c.if-not-same_counts.true)
 
-same-heights-requires : tie.Need-same-heights-requires
-same-heights-requires c κs = search rules
+same_heights-requires : tie.Need-same_heights-requires
+same_heights-requires c κs = search rules
 
-returns-3 : tie.Need-returns-3
+returns-then-not-same_heights : tie.Need-returns-then-not-same_heights
 unfolding same_in_deal
-returns-3 c =
-    let d = c.before.before in
-    rw (step (counted d), counts d, denied c.before.same-heights.ensures c.if3.true)
+returns-then-not-same_heights c =
+    let d = c.before in
+    rw (step (counted d.before), counts d, denied c.same_heights.ensures c.if-not-same_heights.true)
 
-same-deck-requires : tie.Need-same-deck-requires
-same-deck-requires c κs = search rules
+same_deck-requires : tie.Need-same_deck-requires
+same_deck-requires c κs = search rules
 
-returns-4 : tie.Need-returns-4
+returns-then-not-same_deck : tie.Need-returns-then-not-same_deck
 unfolding same_in_deal
-returns-4 c =
-    let e = c.before.before in
-    let d = raised e in
-    rw (step (counted d), counts d, heights e, denied c.before.same-deck.ensures c.if4.true)
+returns-then-not-same_deck c =
+    let e = c.before in
+    let d = raised e.before in
+    rw (step (counted d), counts d, heights e, denied c.same_deck.ensures c.if-not-same_deck.true)
 
-returns-5 : tie.Need-returns-5
+returns-then-p-q-2 : tie.Need-returns-then-p-q-2
 unfolding same_in_deal
-returns-5 c =
-    let f = c.before.before.before in
-    let e = drawn f in
+returns-then-p-q-2 c =
+    let f = c.before in
+    let e = drawn f.before.before in
     let d = raised e in
     rw (step (counted d), counts d, heights e, deck f, ne_eqb _ _ c.if5.true)
 
-returns-6 : tie.Need-returns-6
+returns : tie.Need-returns
 unfolding same_in_deal
-returns-6 c =
-    let g = c.before.before in
-    let f = turned g in
+returns c =
+    let g = c.before in
+    let f = turned g.before in
     let e = drawn f in
     let d = raised e in
     rw (step (counted d), counts d, heights e, deck f, eq-eqb _ _ g.if5.false)
 
-pub same-in-deal-spec : {M : Type 1} → statement M
-same-in-deal-spec =
+pub same_in_deal_spec : {M : Type 1} → statement M
+same_in_deal_spec =
     tie.close
     (tie.spec
-    returns
-    same-counts-requires
-    returns-2
-    same-heights-requires
-    returns-3
-    same-deck-requires
-    returns-4
-    returns-5
-    returns-6)
+    returns-then-p-q
+    same_counts-requires
+    returns-then-not-same_counts
+    same_heights-requires
+    returns-then-not-same_heights
+    same_deck-requires
+    returns-then-not-same_deck
+    returns-then-p-q-2
+    returns)

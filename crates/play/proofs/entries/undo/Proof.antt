@@ -19,101 +19,101 @@ use Rattle.play.proofs.entries.undo.Tie as tie
 
 -- ---- the way back from each test to the one before it, and to what was given
 
-abbrev begun : tie.Else2 → tie.Start
+abbrev begun : tie.Else-card-gt-LAST_CARD → tie.Start
 begun c = c.before.before
 
-abbrev asked-way : tie.Else3 → tie.Else2
+abbrev asked-way : tie.Else-not-has_way → tie.Else-card-gt-LAST_CARD
 asked-way c = c.before.before
 
-abbrev gone : tie.After-leads-to → tie.Else3
+abbrev gone : tie.After-leads_to → tie.Else-not-has_way
 gone c = c.before.before
 
-abbrev of-3 : tie.Else3 → tie.Start
+abbrev of-3 : tie.Else-not-has_way → tie.Start
 of-3 c = begun (asked-way c)
 
-abbrev of-lead : tie.After-leads-to → tie.Start
+abbrev of-lead : tie.After-leads_to → tie.Start
 of-lead c = of-3 (gone c)
 
 -- ---- what the tests say
 
-is_move : (c : tie.Else2) → is_kind_and_card (entry_kind (begun c).args.entry) (entry_card (begun c).args.entry) ≡ true
+is_move : (c : tie.Else-card-gt-LAST_CARD) → is_kind_and_card (entry_kind (begun c).args.entry) (entry_card (begun c).args.entry) ≡ true
 unfolding is_kind_and_card entry_kind entry_card
-is_move c = rw (le-leb _ _ c.before.if1.false, le-leb ((begun c).args.entry % 64) 51 (omega (arith, c.if2.false)))
+is_move c = rw (le-leb _ _ c.if-kind-gt-LAST_KIND.false, le-leb ((begun c).args.entry % 64) 51 (omega (arith, c.if-card-gt-LAST_CARD.false)))
 
 -- what was asked of the position gone back to
-asked : (c : tie.After-leads-to) → c.leads-to.result ≡ leads (of-lead c).args.p (of-lead c).args.entry
+asked : (c : tie.After-leads_to) → c.leads_to.result ≡ leads (of-lead c).args.p (of-lead c).args.entry
 unfolding entry_byte entry_kind entry_card
 asked c =
     let a = (of-lead c).args in
-    c.leads-to.ensures ∙ ap (λ (q : Position). leads_to q (entry_byte a.entry) (entry_kind a.entry) (entry_card a.entry) a.p) c.before.undo-move.ensures
+    c.leads_to.ensures ∙ ap (λ (q : Position). leads_to q (entry_byte a.entry) (entry_kind a.entry) (entry_card a.entry) a.p) c.undo_move-q.ensures
 
 -- ---- each test in turn
 
-cast-byte : tie.Need-overflow-cast-byte
-cast-byte c = search rules
+overflow_cast-byte : tie.Need-overflow_cast-byte
+overflow_cast-byte c = search rules
 
-cast-kind : tie.Need-overflow-cast-kind
-cast-kind c = search rules
+overflow_cast-kind : tie.Need-overflow_cast-kind
+overflow_cast-kind c = search rules
 
-cast-card : tie.Need-overflow-cast-card
-cast-card c = search rules
+overflow_cast-card : tie.Need-overflow_cast-card
+overflow_cast-card c = search rules
 
-returns : tie.Need-returns
+returns-then-kind-gt-LAST_KIND : tie.Need-returns-then-kind-gt-LAST_KIND
 unfolding is_kind_and_card entry_kind entry_card
-returns c =
-    let a = c.before.args in
-    none_is a.p a.entry (not_move a.p a.entry (rw (lt-leb _ _ c.if1.true)))
+returns-then-kind-gt-LAST_KIND c =
+    let a = c.args in
+    none_is a.p a.entry (not_move a.p a.entry (rw (lt-leb _ _ c.if-kind-gt-LAST_KIND.true)))
 
-returns-2 : tie.Need-returns-2
+returns-then-card-gt-LAST_CARD : tie.Need-returns-then-card-gt-LAST_CARD
 unfolding is_kind_and_card entry_kind entry_card
-returns-2 c =
-    let a = c.before.before.args in
-    none_is a.p a.entry (not_move a.p a.entry (rw (le-leb _ _ c.before.if1.false, lt-leb (a.entry % 64) 51 (omega (arith, c.if2.true)))))
+returns-then-card-gt-LAST_CARD c =
+    let a = c.args in
+    none_is a.p a.entry (not_move a.p a.entry (rw (le-leb _ _ c.if-kind-gt-LAST_KIND.false, lt-leb (a.entry % 64) 51 (omega (arith, c.if-card-gt-LAST_CARD.true)))))
 
-has-way-requires : tie.Need-has-way-requires
-has-way-requires c κs = search rules
+has_way-requires : tie.Need-has_way-requires
+has_way-requires c κs = search rules
 
-returns-3 : tie.Need-returns-3
+returns-then-not-has_way : tie.Need-returns-then-not-has_way
 unfolding entry_byte entry_kind entry_card
-returns-3 c =
+returns-then-not-has_way c =
     let b = begun c.before.before in
     let a = b.args in
-    none_is a.p a.entry (no_way a.p a.entry (shape a.p _ b.good.0).counts (denied c.before.has-way.ensures c.if3.true))
+    none_is a.p a.entry (no_way a.p a.entry (shape a.p _ b.well_formed.0).counts (denied c.has_way.ensures c.if-not-has_way.true))
 
-undo-move-requires : tie.Need-undo-move-requires
-undo-move-requires c κs = ((of-3 c).requires, true-T _ (granted c.before.has-way.ensures c.if3.false))
+undo_move-q-requires : tie.Need-undo_move-q-requires
+undo_move-q-requires c κs = ((of-3 c).requires, true-T _ (granted c.has_way.ensures c.if-not-has_way.false))
 
-leads-to-requires : tie.Need-leads-to-requires
-leads-to-requires c κs =
+leads_to-requires : tie.Need-leads_to-requires
+leads_to-requires c κs =
     let d = asked-way c.before in
     let b = begun d in
-    (omega (arith, d.before.if1.left), omega (arith, d.if2.left), b.pre, ap (λ (q : Position). q.deal) c.undo-move.ensures ∙ kept_deal b.args.p _ _ _)
+    (omega (arith, d.if-kind-gt-LAST_KIND.left), omega (arith, d.if-card-gt-LAST_CARD.left), b.requires, ap (λ (q : Position). q.deal) c.undo_move-q.ensures ∙ kept_deal b.args.p _ _ _)
 
-returns-4 : tie.Need-returns-4
+returns-then-not-leads_to : tie.Need-returns-then-not-leads_to
 unfolding entry_byte entry_kind entry_card
-returns-4 c =
+returns-then-not-leads_to c =
     let a = (of-lead c.before).args in
-    none_is a.p a.entry (not_led a.p a.entry (denied (asked c.before) c.if4.true))
+    none_is a.p a.entry (not_led a.p a.entry (denied (asked c.before) c.if-not-leads_to.true))
 
-returns-5 : tie.Need-returns-5
+returns : tie.Need-returns
 unfolding entry_byte entry_kind entry_card
-returns-5 c =
+returns c =
     let l = c.before in
     let a = (of-lead l).args in
-    rw l.before.undo-move.ensures (some_is a.p a.entry (led a.p a.entry (is_move (asked-way (gone l))) (granted (asked l) c.if4.false)))
+    rw l.undo_move-q.ensures (some_is a.p a.entry (led a.p a.entry (is_move (asked-way (gone l))) (granted (asked l) c.if-not-leads_to.false)))
 
-pub undo-spec : {M : Type 1} → statement M
-undo-spec =
+pub undo_spec : {M : Type 1} → statement M
+undo_spec =
     tie.close
     (tie.spec
-    cast-byte
-    cast-kind
-    cast-card
-    returns
-    returns-2
-    has-way-requires
-    returns-3
-    undo-move-requires
-    leads-to-requires
-    returns-4
-    returns-5)
+    overflow_cast-byte
+    overflow_cast-kind
+    overflow_cast-card
+    returns-then-kind-gt-LAST_KIND
+    returns-then-card-gt-LAST_CARD
+    has_way-requires
+    returns-then-not-has_way
+    undo_move-q-requires
+    leads_to-requires
+    returns-then-not-leads_to
+    returns)

@@ -3,17 +3,23 @@
 use Rattle.play.proofs.make.do_move.Statement.{statement}
 use Rattle.play.proofs.make.do_move.Tie as tie
 
-from-deck-requires : tie.Need-from-deck-requires
-from-deck-requires c κs = (c.before.requires.0, c.before.requires.1, c.match.keys1)
+from_deck-requires : tie.Need-from_deck-requires
+from_deck-requires c κs = (c.requires.0, c.requires.1, c.in_default.keys1)
 
-from-table-requires : tie.Need-from-table-requires
-from-table-requires c κs = (c.before.requires.0, c.before.requires.1, c.match.rest.1)
+from_table-requires : tie.Need-from_table-requires
+from_table-requires c κs = (c.requires.0, c.requires.1, c.in_default.rest.1)
 
-returns : tie.Need-returns
-returns c = c.from-deck.ensures
+returns-in-0 : tie.Need-returns-in-0
+returns-in-0 c = c.from_deck.ensures
 
-returns-2 : tie.Need-returns-2
-returns-2 c = c.from-table.ensures
+returns-in_default : tie.Need-returns-in_default
+returns-in_default c = c.from_table.ensures
 
-pub do-move-spec : {M : Type 1} → statement M
-do-move-spec = tie.close (tie.spec from-deck-requires from-table-requires returns returns-2)
+pub do_move_spec : {M : Type 1} → statement M
+do_move_spec =
+    tie.close
+    (tie.spec
+    from_deck-requires
+    from_table-requires
+    returns-in-0
+    returns-in_default)

@@ -24,77 +24,77 @@ use Rattle.play.proofs.make.from_deck.Tie as tie
 
 -- ---- the way back to the card's suit, and to what was given
 
-abbrev begun : tie.After-place-of → tie.Start
+abbrev begun : tie.After-place_of-place → tie.Start
 begun c = c.before.before.before
 
-abbrev drawn : tie.After-draw → tie.After-suit
+abbrev drawn : tie.After-draw-rest → tie.After-suit-suit
 drawn c = c.before.before.before
 
 -- ---- the card's suit and its place in the deck
 
-suit_low : (c : tie.After-suit) → c.suit.result < 4
-suit_low c = suit_fits c.suit.result c.before.args.card c.suit.ensures
+suit_low : (c : tie.After-suit-suit) → c.suit-suit.result < 4
+suit_low c = suit_fits c.suit-suit.result c.args.card c.suit-suit.ensures
 
-roomy : (c : tie.After-suit) → get_or c.before.args.t1.heights c.suit.result 0 < 255
-roomy c = low_height c.before.args.t1 c.before.requires.0 c.suit.result c.before.args.card c.suit.ensures
+roomy : (c : tie.After-suit-suit) → get_or c.args.p.heights c.suit-suit.result 0 < 255
+roomy c = low_height c.args.p c.requires.0 c.suit-suit.result c.args.card c.suit-suit.ensures
 
-in_deck_lem : (c : tie.Start) → T (in_deck c.args.t1 c.args.card)
+in_deck_lem : (c : tie.Start) → T (in_deck c.args.p c.args.card)
 in_deck_lem c =
     let a = c.args in
-    let of : (k : ℕ) → a.kind ≡ k → T (legal a.t1 k a.card) = λ k e. subst (λ (x : ℕ). T (legal a.t1 x a.card)) e c.requires.1 in
-    ⊎_elim (λ e. deck_stack_in a.t1 a.card (of 0 e)) (λ e. deck_pile_in a.t1 a.card (of 2 e)) c.requires.2
+    let of : (k : ℕ) → a.kind ≡ k → T (legal a.p k a.card) = λ k e. subst (λ (x : ℕ). T (legal a.p x a.card)) e c.requires.1 in
+    ⊎_elim (λ e. deck_stack_in a.p a.card (of 0 e)) (λ e. deck_pile_in a.p a.card (of 2 e)) c.requires.2
 
-low : (c : tie.After-place-of) → c.place_of.result < (begun c).args.t1.left
+low : (c : tie.After-place_of-place) → c.place_of-place.result < (begun c).args.p.left
 unfolding deck_place
 low c =
     let b = begun c in
-    let p = b.args.t1 in
-    subst (λ (k : ℕ). k < p.left) (sym c.place_of.ensures) (place_low p b.args.card (shape p _ b.good.0).deck (facts p b.pre.0).left (T_true _ (in_deck_lem b)))
+    let p = b.args.p in
+    subst (λ (k : ℕ). k < p.left) (sym c.place_of-place.ensures) (place_low p b.args.card (shape p _ b.well_formed.0).deck (facts p b.requires.0).left (T_true _ (in_deck_lem b)))
 
 -- where both kinds come together
-drew : (c : tie.Joined1) → let a = (begun c.before.before).args in record { position = c.if1.p; byte = a.t1.offset; turned = Nothing } ≡ made a.t1 a.kind a.card
+drew : (c : tie.Joined-kind-eq-DECK_STACK) → let a = (begun c.before.before).args in record { position = c.if-kind-eq-DECK_STACK.p; byte = a.p.offset; turned = Nothing } ≡ made a.p a.kind a.card
 unfolding deck_place
 drew c =
     let d = c.before in
     let k = d.before in
     let b = begun k in
-    let p = b.args.t1 in
+    let p = b.args.p in
     let card = b.args.card in
     let kind = b.args.kind in
-    let s = (drawn d).suit.result in
-    let e = (drawn d).suit.ensures in
+    let s = (drawn d).suit-suit.result in
+    let e = (drawn d).suit-suit.ensures in
     ⊎_elim
-    (λ w. from_deck_up p card kind c.if1.p w.0.taken (w.2 ∙ drawn_up p card s e k.place_of.result d.draw.result k.place_of.ensures d.draw.ensures))
+    (λ w. from_deck_up p card kind c.if-kind-eq-DECK_STACK.p w.0.taken (w.2 ∙ drawn_up p card s e k.place_of-place.result d.draw-rest.result k.place_of-place.ensures d.draw-rest.ensures))
     (λ w.
-    from_deck p card kind c.if1.p (⊎_elim (λ z. absurd (w.0.left z)) (λ z. z) b.pre.2)
-    (w.2 ∙ drawn_laid p card s e k.place_of.result d.draw.result w.1.result k.place_of.ensures d.draw.ensures w.1.ensures))
-    c.if1.branch
+    from_deck p card kind c.if-kind-eq-DECK_STACK.p (⊎_elim (λ z. absurd (w.0.left z)) (λ z. z) b.requires.2)
+    (w.2 ∙ drawn_laid p card s e k.place_of-place.result d.draw-rest.result w.1.result k.place_of-place.ensures d.draw-rest.ensures w.1.ensures))
+    c.if-kind-eq-DECK_STACK.branch
 
 -- ---- what the code asks
 
-suit-requires : tie.Need-suit-requires
-suit-requires c κs = search rules
+suit-suit-requires : tie.Need-suit-suit-requires
+suit-suit-requires c κs = search rules
 
-cast-suit : tie.Need-overflow-cast-suit
-cast-suit c = search rules
+overflow_cast-suit : tie.Need-overflow_cast-suit
+overflow_cast-suit c = search rules
 
-place-of-requires : tie.Need-place-of-requires
-place-of-requires c κs = let b = c.before.before in (facts b.args.t1 b.requires.0).left
+place_of-place-requires : tie.Need-place_of-place-requires
+place_of-place-requires c κs = let b = c.before in (facts b.args.p b.requires.0).left
 
-draw-requires : tie.Need-draw-requires
-draw-requires c κs = let b = begun c in (low c, (facts b.args.t1 b.pre.0).left)
+draw-rest-requires : tie.Need-draw-rest-requires
+draw-rest-requires c κs = let b = begun c in (low c, (facts b.args.p b.requires.0).left)
 
-sub-p : tie.Need-overflow-sub-p
-sub-p c = omega (arith, low c.before)
+overflow_sub-p : tie.Need-overflow_sub-p
+overflow_sub-p c = omega (arith, low c.before)
 
-element-copy-out-p : tie.Need-element-copy-out-p
-element-copy-out-p c = suit_low (drawn c.before)
+bounds-p-suit : tie.Need-bounds-p-suit
+bounds-p-suit c = suit_low (drawn c.before)
 
-add-p : tie.Need-overflow-add-p
-add-p c = omega (arith, roomy (drawn c.before.before))
+overflow_add-p : tie.Need-overflow_add-p
+overflow_add-p c = omega (arith, roomy (drawn c.before.before))
 
-element-write-p : tie.Need-element-write-p
-element-write-p c = suit_low (drawn c.before.before)
+bounds-p-suit-then-kind-eq-DECK_STACK : tie.Need-bounds-p-suit-then-kind-eq-DECK_STACK
+bounds-p-suit-then-kind-eq-DECK_STACK c = suit_low (drawn c.before.before)
 
 seen-requires : tie.Need-seen-requires
 seen-requires c κs = search rules
@@ -105,5 +105,18 @@ answer-requires c κs = search rules
 returns : tie.Need-returns
 returns c = c.answer.ensures ∙ drew c.before
 
-pub from-deck-spec : {M : Type 1} → statement M
-from-deck-spec = tie.close (tie.spec suit-requires cast-suit place-of-requires draw-requires sub-p element-copy-out-p add-p element-write-p seen-requires answer-requires returns)
+pub from_deck_spec : {M : Type 1} → statement M
+from_deck_spec =
+    tie.close
+    (tie.spec
+    suit-suit-requires
+    overflow_cast-suit
+    place_of-place-requires
+    draw-rest-requires
+    overflow_sub-p
+    bounds-p-suit
+    overflow_add-p
+    bounds-p-suit-then-kind-eq-DECK_STACK
+    seen-requires
+    answer-requires
+    returns)

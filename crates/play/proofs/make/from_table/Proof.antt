@@ -23,65 +23,65 @@ use Rattle.play.proofs.make.from_table.Tie as tie
 
 -- ---- the way back from each place to where the kinds come together, and to what was given
 
-abbrev begun : tie.At-match-branch → tie.Start
+abbrev begun : tie.Joined-kind → tie.Start
 begun c = c.before.before
 
-abbrev raised : tie.After-unseen → tie.After-suit
+abbrev raised : tie.After-unseen → tie.After-suit-suit
 raised c = c.before.before.before
 
-abbrev lessened : tie.After-one-less2 → tie.Then1
+abbrev lessened : tie.After-one_less-then-pile-lt-N_PILES → tie.Then-pile-lt-N_PILES
 lessened c = c.before.before
 
-abbrev under : tie.After-pile-start → tie.Then1
+abbrev under : tie.After-pile_start → tie.Then-pile-lt-N_PILES
 under c = lessened c.before.before
 
 -- ---- the card's suit
 
-suit_low : (c : tie.After-suit) → c.suit.result < 4
-suit_low c = suit_fits c.suit.result c.before.args.card c.suit.ensures
+suit_low : (c : tie.After-suit-suit) → c.suit-suit.result < 4
+suit_low c = suit_fits c.suit-suit.result c.args.card c.suit-suit.ensures
 
-roomy : (c : tie.After-suit) → get_or c.before.args.t1.heights c.suit.result 0 < 255
-roomy c = low_height c.before.args.t1 c.before.requires.0 c.suit.result c.before.args.card c.suit.ensures
+roomy : (c : tie.After-suit-suit) → get_or c.args.p.heights c.suit-suit.result 0 < 255
+roomy c = low_height c.args.p c.requires.0 c.suit-suit.result c.args.card c.suit-suit.ensures
 
 -- ---- halfway
 
-mid : (c : tie.At-match-branch) → let a = (begun c).args in Making a.t1 a.card a.kind c.match.p c.match.byte c.match.pile
+mid : (c : tie.Joined-kind) → let a = (begun c).args in Making a.p a.card a.kind c.match-kind.p c.match-kind.byte c.match-kind.pile
 mid c =
     let b = begun c in
-    let p = b.args.t1 in
+    let p = b.args.p in
     let card = b.args.card in
     let kind = b.args.kind in
-    let s = c.before.suit.result in
-    let e = c.before.suit.ensures in
-    let m = c.match in
+    let s = c.suit-suit.result in
+    let e = c.suit-suit.ensures in
+    let m = c.match-kind in
     ⊎_elim
     (λ w. from_stack p card kind m.p m.byte m.pile w.0.keys1 (w.4 ∙ down_laid p card s e w.2.result w.3.result w.2.ensures w.3.ensures) w.5 w.6)
     (⊎_elim
     (λ w.
-    from_pile_up p card kind m.p m.byte m.pile b.pre.0 w.0.keys2 (w.4 ∙ up_lifted p card s e w.2.result w.2.ensures)
+    from_pile_up p card kind m.p m.byte m.pile b.requires.0 w.0.keys2 (w.4 ∙ up_lifted p card s e w.2.result w.2.ensures)
     (w.5 ∙ ap (λ (i : ℕ). bool_byte (ltb i 7)) (sym w.6)) (w.6 ∙ w.3.ensures))
-    (λ w. to_pile p card kind m.p m.byte m.pile b.pre.0 b.pre.1 (rest b.pre.2 w.0.rest) w.2 w.3 (w.4 ∙ w.1.ensures)))
+    (λ w. to_pile p card kind m.p m.byte m.pile b.requires.0 b.requires.1 (rest b.requires.2 w.0.rest) w.2 w.3 (w.4 ∙ w.1.ensures)))
     m.branch
 
 -- the count of the pile that is turned
-fits : (c : tie.Then1) → get_or c.before.match.p.counts c.before.match.pile 0 ≤ c.before.match.pile + 1
+fits : (c : tie.Then-pile-lt-N_PILES) → get_or c.match-kind.p.counts c.match-kind.pile 0 ≤ c.match-kind.pile + 1
 fits c =
     let b = begun c.before in
-    same_fit b.args.t1 b.pre.0 c.before.match.p (mid c.before).counts c.before.match.pile c.if1.true
+    same_fit b.args.p b.requires.0 c.match-kind.p (mid c.before).counts c.match-kind.pile c.if-pile-lt-N_PILES.true
 
-place : (c : tie.After-pile-start) → let m = (under c).before.match in c.pile-start.result + get_or m.p.counts m.pile 0 ≤ 52
+place : (c : tie.After-pile_start) → let m = (under c).match-kind in c.pile_start.result + get_or m.p.counts m.pile 0 ≤ 52
 place c =
     let t = under c in
-    in_deal t.before.match.pile (get_or t.before.match.p.counts t.before.match.pile 0) c.pile-start.result t.if1.taken (fits t) c.pile-start.ensures
+    in_deal t.match-kind.pile (get_or t.match-kind.p.counts t.match-kind.pile 0) c.pile_start.result t.if-pile-lt-N_PILES.taken (fits t) c.pile_start.ensures
 
 -- ---- the pile is turned, or there is none
 
 put : (byte : ℕ) {q q' : Position} {t t' : TurnedUp} → q ≡ q' → t ≡ t' → ◌≡◌ {A = Made} (record { position = q; byte = byte; turned = t }) (record { position = q'; byte = byte; turned = t' })
 put byte = ap₂ (λ (q : Position) (t : TurnedUp). record { position = q; byte = byte; turned = t })
 
-end : (c : tie.Joined1) → let a = (begun c.before).args in record { position = c.if1.p; byte = c.before.match.byte; turned = c.if1.turned } ≡ made a.t1 a.kind a.card
+end : (c : tie.Joined-pile-lt-N_PILES) → let a = (begun c.before).args in record { position = c.if-pile-lt-N_PILES.p; byte = c.match-kind.byte; turned = c.if-pile-lt-N_PILES.turned } ≡ made a.p a.kind a.card
 end c =
-    let m = c.before.match in
+    let m = c.match-kind in
     let q = m.p in
     let n = get_or q.counts m.pile 0 in
     let h = mid c.before in
@@ -95,78 +95,78 @@ end c =
     (⊎_elim
     (λ w. put m.byte w.4 w.5 ∙ uncovered_emptied q m.pile w.2.result m.byte w.2.ensures w.3.left ∙ h.some w.0.taken)
     (λ w. put m.byte w.1 w.2 ∙ h.none w.0.left))
-    c.if1.branch
+    c.if-pile-lt-N_PILES.branch
 
 -- ---- what the code asks
 
-suit-requires : tie.Need-suit-requires
-suit-requires c κs = search rules
+suit-suit-requires : tie.Need-suit-suit-requires
+suit-suit-requires c κs = search rules
 
-cast-suit : tie.Need-overflow-cast-suit
-cast-suit c = search rules
+overflow_cast-suit : tie.Need-overflow_cast-suit
+overflow_cast-suit c = search rules
 
-element-copy-out-one-less : tie.Need-element-copy-out-one-smaller
-element-copy-out-one-less c = suit_low c.before
+bounds-p-suit : tie.Need-bounds-p-suit
+bounds-p-suit c = suit_low c.before
 
-one-less-requires : tie.Need-one-less-requires
-one-less-requires c κs = search rules
+one_less-requires : tie.Need-one_less-requires
+one_less-requires c κs = search rules
 
-element-write-p : tie.Need-element-write-p
-element-write-p c = suit_low c.before.before.before
+bounds-p-suit-in-3 : tie.Need-bounds-p-suit-in-3
+bounds-p-suit-in-3 c = suit_low c.before.before.before
 
 seen-requires : tie.Need-seen-requires
 seen-requires c κs = search rules
 
-element-copy-out-p : tie.Need-element-copy-out-p
-element-copy-out-p c = suit_low c.before
+bounds-p-suit-in-1 : tie.Need-bounds-p-suit-in-1
+bounds-p-suit-in-1 c = suit_low c.before
 
-add-p : tie.Need-overflow-add-p
-add-p c = omega (arith, roomy c.before.before)
+overflow_add-p : tie.Need-overflow_add-p
+overflow_add-p c = omega (arith, roomy c.before.before)
 
-element-write-p-2 : tie.Need-element-write-p-2
-element-write-p-2 c = suit_low c.before.before
+bounds-p-suit-in-1-2 : tie.Need-bounds-p-suit-in-1-2
+bounds-p-suit-in-1-2 c = suit_low c.before.before
 
 unseen-requires : tie.Need-unseen-requires
 unseen-requires c κs = search rules
 
-head-pile-requires : tie.Need-head-pile-requires
-head-pile-requires c κs = let b = (raised c).before in counts_fit b.args.t1 b.pre.0
+head_pile-pile-requires : tie.Need-head_pile-pile-requires
+head_pile-pile-requires c κs = let b = (raised c).before in counts_fit b.args.p b.requires.0
 
-cast-byte : tie.Need-overflow-cast-byte
-cast-byte c = search rules
+overflow_cast-byte : tie.Need-overflow_cast-byte
+overflow_cast-byte c = search rules
 
-head-pile-requires-2 : tie.Need-head-pile-requires-2
-head-pile-requires-2 c κs = let b = c.before.before in counts_fit b.args.t1 b.requires.0
+head_pile-pile-requires-in_default : tie.Need-head_pile-pile-requires-in_default
+head_pile-pile-requires-in_default c κs = let b = c.before in counts_fit b.args.p b.requires.0
 
-element-copy-out-n : tie.Need-element-copy-out-n
-element-copy-out-n c = search rules
+bounds-p-pile : tie.Need-bounds-p-pile
+bounds-p-pile c = search rules
 
-one-less-requires-2 : tie.Need-one-less-requires-2
-one-less-requires-2 c κs = search rules
+one_less-requires-then-pile-lt-N_PILES : tie.Need-one_less-requires-then-pile-lt-N_PILES
+one_less-requires-then-pile-lt-N_PILES c κs = search rules
 
-element-write-p-3 : tie.Need-element-write-p-3
-element-write-p-3 c = search rules
+bounds-p-pile-then-pile-lt-N_PILES : tie.Need-bounds-p-pile-then-pile-lt-N_PILES
+bounds-p-pile-then-pile-lt-N_PILES c = search rules
 
-pile-start-requires : tie.Need-pile-start-requires
-pile-start-requires c κs = search rules
+pile_start-requires : tie.Need-pile_start-requires
+pile_start-requires c κs = search rules
 
-cast-at : tie.Need-overflow-cast-at
-cast-at c = search rules
+overflow_cast-at : tie.Need-overflow_cast-at
+overflow_cast-at c = search rules
 
-cast-at-2 : tie.Need-overflow-cast-at-2
-cast-at-2 c = search rules
+overflow_cast-at-then-n-gt1 : tie.Need-overflow_cast-at-then-n-gt1
+overflow_cast-at-then-n-gt1 c = search rules
 
-add_at : tie.Need-overflow-add-at
-add_at c = search rules
+overflow_add-at : tie.Need-overflow_add-at
+overflow_add-at c = search rules
 
-sub_at : tie.Need-overflow-sub-at
-sub_at c = search rules
+overflow_sub-at : tie.Need-overflow_sub-at
+overflow_sub-at c = search rules
 
-element-copy-out-up : tie.Need-element-copy-out-up
-element-copy-out-up c = omega (arith, place c)
+bounds-p-at : tie.Need-bounds-p-at
+bounds-p-at c = omega (arith, place c)
 
-seen-requires-2 : tie.Need-seen-requires-2
-seen-requires-2 c κs = search rules
+seen-requires-then-n-gt1 : tie.Need-seen-requires-then-n-gt1
+seen-requires-then-n-gt1 c κs = search rules
 
 answer-requires : tie.Need-answer-requires
 answer-requires c κs = search rules
@@ -174,5 +174,32 @@ answer-requires c κs = search rules
 returns : tie.Need-returns
 returns c = c.answer.ensures ∙ end c.before
 
-pub from-table-spec : {M : Type 1} → statement M
-from-table-spec = tie.close (tie.spec suit-requires cast-suit element-copy-out-one-less one-less-requires element-write-p seen-requires element-copy-out-p add-p element-write-p-2 unseen-requires head-pile-requires cast-byte head-pile-requires-2 element-copy-out-n one-less-requires-2 element-write-p-3 pile-start-requires cast-at cast-at-2 add_at sub_at element-copy-out-up seen-requires-2 answer-requires returns)
+pub from_table_spec : {M : Type 1} → statement M
+from_table_spec =
+    tie.close
+    (tie.spec
+    suit-suit-requires
+    overflow_cast-suit
+    bounds-p-suit
+    one_less-requires
+    bounds-p-suit-in-3
+    seen-requires
+    bounds-p-suit-in-1
+    overflow_add-p
+    bounds-p-suit-in-1-2
+    unseen-requires
+    head_pile-pile-requires
+    overflow_cast-byte
+    head_pile-pile-requires-in_default
+    bounds-p-pile
+    one_less-requires-then-pile-lt-N_PILES
+    bounds-p-pile-then-pile-lt-N_PILES
+    pile_start-requires
+    overflow_cast-at
+    overflow_cast-at-then-n-gt1
+    overflow_add-at
+    overflow_sub-at
+    bounds-p-at
+    seen-requires-then-n-gt1
+    answer-requires
+    returns)

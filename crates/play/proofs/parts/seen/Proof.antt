@@ -10,7 +10,11 @@ mask-requires : tie.Need-mask-requires
 mask-requires c κs = search rules
 
 returns : tie.Need-returns
-returns c = rw c.mask.ensures (with_is c.before.args.visible c.before.args.card (omega arith))
+returns c = rw c.mask.ensures (with_is c.args.visible c.args.card (omega arith))
 
-pub seen-spec : {M : Type 1} → statement M
-seen-spec = tie.close (tie.spec mask-requires returns)
+pub seen_spec : {M : Type 1} → statement M
+seen_spec =
+    tie.close
+    (tie.spec
+    mask-requires
+    returns)

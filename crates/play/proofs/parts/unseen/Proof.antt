@@ -10,7 +10,11 @@ mask-requires : tie.Need-mask-requires
 mask-requires c κs = search rules
 
 returns : tie.Need-returns
-returns c = rw c.mask.ensures (without_is c.before.args.visible c.before.args.card (omega arith))
+returns c = rw c.mask.ensures (without_is c.args.visible c.args.card (omega arith))
 
-pub unseen-spec : {M : Type 1} → statement M
-unseen-spec = tie.close (tie.spec mask-requires returns)
+pub unseen_spec : {M : Type 1} → statement M
+unseen_spec =
+    tie.close
+    (tie.spec
+    mask-requires
+    returns)

@@ -8,39 +8,47 @@ use Rattle.play.proofs.LastKind.{none, way_last}
 use Rattle.play.proofs.unmake.has_way.Statement.{statement}
 use Rattle.play.proofs.unmake.has_way.Tie as tie
 
-returns : tie.Need-returns
+returns-then-byte-eq0 : tie.Need-returns-then-byte-eq0
 unfolding has_way
-returns c = rw (c.before.match.keys2, eq-eqb c.before.before.args.byte 0 c.if1.true)
+returns-then-byte-eq0 c = rw (c.in_default.keys2, eq-eqb c.args.byte 0 c.if-byte-eq0.true)
 
-bare-pile-requires : tie.Need-bare-pile-requires
-bare-pile-requires c κs = counts_fit c.before.before.args.p c.before.before.requires
+bare_pile-requires : tie.Need-bare_pile-requires
+bare_pile-requires c κs = counts_fit c.args.p c.requires
 
-bare-pile-requires-2 : tie.Need-bare-pile-requires-2
-bare-pile-requires-2 c κs = counts_fit c.before.args.p c.before.requires
+bare_pile-requires-in_default : tie.Need-bare_pile-requires-in_default
+bare_pile-requires-in_default c κs = counts_fit c.args.p c.requires
 
-returns-2 : tie.Need-returns-2
+returns-in-0 : tie.Need-returns-in-0
 unfolding has_way
-returns-2 c = rw c.before.match.keys1
+returns-in-0 c = rw c.in_default.keys1
 
-returns-3 : tie.Need-returns-3
+returns-else-byte-eq0 : tie.Need-returns-else-byte-eq0
 unfolding has_way left_pile
-returns-3 c = rw (c.bare-pile.ensures, c.before.before.match.keys2, ne_eqb c.before.before.before.args.byte 0 c.before.if1.false)
+returns-else-byte-eq0 c = rw (c.bare_pile.ensures, c.in_default.keys2, ne_eqb c.args.byte 0 c.if-byte-eq0.false)
 
-returns-4 : tie.Need-returns-4
+returns-in-2 : tie.Need-returns-in-2
 unfolding has_way
-returns-4 c = rw c.before.match.keys3
+returns-in-2 c = rw c.in_default.keys3
 
-returns-5 : tie.Need-returns-5
+returns-in-3 : tie.Need-returns-in-3
 unfolding has_way
-returns-5 c = rw c.match.keys4
+returns-in-3 c = rw c.in_default.keys4
 
-returns-6 : tie.Need-returns-6
+returns-in_default : tie.Need-returns-in_default
 unfolding has_way left_pile
-returns-6 c =
-    let a = c.before.before.args in
-    rw c.bare-pile2.ensures (sym (way_last a.p a.card a.kind (none c.before.match.rest) a.byte))
+returns-in_default c =
+    let a = c.args in
+    rw c.bare_pile-in_default.ensures (sym (way_last a.p a.card a.kind (none c.in_default.rest) a.byte))
 
-pub has-way-spec : {M : Type 1} → statement M
-has-way-spec =
+pub has_way_spec : {M : Type 1} → statement M
+has_way_spec =
     tie.close
-    (tie.spec returns bare-pile-requires bare-pile-requires-2 returns-2 returns-3 returns-4 returns-5 returns-6)
+    (tie.spec
+    returns-then-byte-eq0
+    bare_pile-requires
+    bare_pile-requires-in_default
+    returns-in-0
+    returns-else-byte-eq0
+    returns-in-2
+    returns-in-3
+    returns-in_default)

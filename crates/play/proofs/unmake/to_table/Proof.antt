@@ -17,144 +17,171 @@ use Rattle.play.proofs.unmake.to_table.Tie as tie
 
 -- ---- the way back from each place to where the kinds come together, and to what was given
 
-abbrev begun : tie.At-match-branch → tie.Start
+abbrev begun : tie.Joined-kind → tie.Start
 begun c = c.before.before
 
-abbrev lowered : tie.After-one-less → tie.After-suit
+abbrev lowered : tie.After-one_less → tie.After-suit-suit
 lowered c = c.before.before.before
 
-abbrev under : tie.After-pile-start → tie.Then2
+abbrev under : tie.After-pile_start → tie.Then-pile-lt-N_PILES
 under c = c.before.before.before
 
 -- ---- the card's suit
 
-suit_low : (c : tie.After-suit) → c.suit.result < 4
-suit_low c = suit_fits c.suit.result c.before.args.card c.suit.ensures
+suit_low : (c : tie.After-suit-suit) → c.suit-suit.result < 4
+suit_low c = suit_fits c.suit-suit.result c.args.card c.suit-suit.ensures
 
-roomy : (c : tie.After-suit) → get_or c.before.args.t1.heights c.suit.result 0 < 255
-roomy c = low_height c.before.args.t1 c.before.requires.0 c.suit.result c.before.args.card c.suit.ensures
+roomy : (c : tie.After-suit-suit) → get_or c.args.p.heights c.suit-suit.result 0 < 255
+roomy c = low_height c.args.p c.requires.0 c.suit-suit.result c.args.card c.suit-suit.ensures
 
 -- ---- halfway
 
-mid : (c : tie.At-match-branch) → let a = (begun c).args in Going a.t1 a.byte a.card a.kind c.match.p c.match.pile
+mid : (c : tie.Joined-kind) → let a = (begun c).args in Going a.p a.byte a.card a.kind c.match-kind.p c.match-kind.pile
 mid c =
     let b = begun c in
-    let p = b.args.t1 in
+    let p = b.args.p in
     let byte = b.args.byte in
     let card = b.args.card in
     let kind = b.args.kind in
-    let s = c.before.suit.result in
-    let e = c.before.suit.ensures in
-    let m = c.match in
+    let s = c.suit-suit.result in
+    let e = c.suit-suit.ensures in
+    let m = c.match-kind in
     ⊎_elim
     (λ w. to_stack p byte card kind m.p m.pile w.0.keys1 (w.3 ∙ lifted_up p card s e w.2.result w.2.ensures) w.4)
     (⊎_elim
     (λ w.
-    head_down p byte card kind m.p m.pile b.pre.0 b.pre.1 w.0.keys2 w.4.taken
+    head_down p byte card kind m.p m.pile b.requires.0 b.requires.1 w.0.keys2 w.4.taken
     (w.6 ∙ down_laid p card s e w.2.result w.3.result w.2.ensures w.3.ensures) (w.7 ∙ w.5.ensures))
     (⊎_elim
     (λ w. card_down p byte card kind m.p m.pile w.0.keys2 w.4.left (w.5 ∙ down_laid p card s e w.2.result w.3.result w.2.ensures w.3.ensures) w.6)
-    (λ w. head_back p byte card kind m.p m.pile b.pre.0 b.pre.1 (rest b.pre.2 w.0.rest) w.2 (w.3 ∙ w.1.ensures))))
+    (λ w. head_back p byte card kind m.p m.pile b.requires.0 b.requires.1 (rest b.requires.2 w.0.rest) w.2 (w.3 ∙ w.1.ensures))))
     m.branch
 
 -- the count of the pile that is turned back
-fits : (c : tie.Then2) → get_or c.before.match.p.counts c.before.match.pile 0 ≤ c.before.match.pile + 1
+fits : (c : tie.Then-pile-lt-N_PILES) → get_or c.match-kind.p.counts c.match-kind.pile 0 ≤ c.match-kind.pile + 1
 fits c =
     let b = begun c.before in
-    same_fit b.args.t1 b.pre.0 c.before.match.p (mid c.before).counts c.before.match.pile c.if2.true
+    same_fit b.args.p b.requires.0 c.match-kind.p (mid c.before).counts c.match-kind.pile c.if-pile-lt-N_PILES.true
 
-place : (c : tie.After-pile-start) → let m = (under c).before.match in c.pile-start.result + get_or m.p.counts m.pile 0 ≤ 52
+place : (c : tie.After-pile_start) → let m = (under c).match-kind in c.pile_start.result + get_or m.p.counts m.pile 0 ≤ 52
 place c =
     let t = under c in
-    in_deal t.before.match.pile (get_or t.before.match.p.counts t.before.match.pile 0) c.pile-start.result t.if2.taken (fits t) c.pile-start.ensures
+    in_deal t.match-kind.pile (get_or t.match-kind.p.counts t.match-kind.pile 0) c.pile_start.result t.if-pile-lt-N_PILES.taken (fits t) c.pile_start.ensures
 
 -- ---- what the code asks
 
-suit-requires : tie.Need-suit-requires
-suit-requires c κs = search rules
+suit-suit-requires : tie.Need-suit-suit-requires
+suit-suit-requires c κs = search rules
 
-cast-suit : tie.Need-overflow-cast-suit
-cast-suit c = search rules
+overflow_cast-suit : tie.Need-overflow_cast-suit
+overflow_cast-suit c = search rules
 
-element-copy-out-p : tie.Need-element-copy-out-p
-element-copy-out-p c = suit_low c.before
+bounds-p-suit : tie.Need-bounds-p-suit
+bounds-p-suit c = suit_low c.before
 
-add-p : tie.Need-overflow-add-p
-add-p c = omega (arith, roomy c.before.before)
+overflow_add-p : tie.Need-overflow_add-p
+overflow_add-p c = omega (arith, roomy c.before.before)
 
-element-write-p : tie.Need-element-write-p
-element-write-p c = suit_low c.before.before
+bounds-p-suit-in-3 : tie.Need-bounds-p-suit-in-3
+bounds-p-suit-in-3 c = suit_low c.before.before
 
 unseen-requires : tie.Need-unseen-requires
 unseen-requires c κs = search rules
 
-element-copy-out-one-less : tie.Need-element-copy-out-one-smaller
-element-copy-out-one-less c = suit_low c.before
+bounds-p-suit-in-1 : tie.Need-bounds-p-suit-in-1
+bounds-p-suit-in-1 c = suit_low c.before
 
-one-less-requires : tie.Need-one-less-requires
-one-less-requires c κs = search rules
+one_less-requires : tie.Need-one_less-requires
+one_less-requires c κs = search rules
 
-element-write-p-2 : tie.Need-element-write-p-2
-element-write-p-2 c = suit_low (lowered c)
+bounds-p-suit-in-1-2 : tie.Need-bounds-p-suit-in-1-2
+bounds-p-suit-in-1-2 c = suit_low (lowered c)
 
 seen-requires : tie.Need-seen-requires
 seen-requires c κs = search rules
 
-bare-pile-requires : tie.Need-bare-pile-requires
-bare-pile-requires c κs = let b = (lowered c.before.before).before in counts_fit b.args.t1 b.pre.0
+bare_pile-pile-requires : tie.Need-bare_pile-pile-requires
+bare_pile-pile-requires c κs = let b = (lowered c.before.before).before in counts_fit b.args.p b.requires.0
 
-bare-pile-requires-2 : tie.Need-bare-pile-requires-2
-bare-pile-requires-2 c κs = let b = c.before.before in counts_fit b.args.t1 b.requires.0
+bare_pile-pile-requires-in_default : tie.Need-bare_pile-pile-requires-in_default
+bare_pile-pile-requires-in_default c κs = let b = c.before in counts_fit b.args.p b.requires.0
 
-element-copy-out-n : tie.Need-element-copy-out-n
-element-copy-out-n c = search rules
+bounds-p-pile : tie.Need-bounds-p-pile
+bounds-p-pile c = search rules
 
-add-p-2 : tie.Need-overflow-add-p-2
-add-p-2 c = omega (arith, fits c.before)
+overflow_add-p-then-pile-lt-N_PILES : tie.Need-overflow_add-p-then-pile-lt-N_PILES
+overflow_add-p-then-pile-lt-N_PILES c = omega (arith, fits c.before)
 
-element-write-p-3 : tie.Need-element-write-p-3
-element-write-p-3 c = search rules
+bounds-p-pile-then-pile-lt-N_PILES : tie.Need-bounds-p-pile-then-pile-lt-N_PILES
+bounds-p-pile-then-pile-lt-N_PILES c = search rules
 
-pile-start-requires : tie.Need-pile-start-requires
-pile-start-requires c κs = search rules
+pile_start-requires : tie.Need-pile_start-requires
+pile_start-requires c κs = search rules
 
-cast-at : tie.Need-overflow-cast-at
-cast-at c = search rules
+overflow_cast-at : tie.Need-overflow_cast-at
+overflow_cast-at c = search rules
 
-cast-at-2 : tie.Need-overflow-cast-at-2
-cast-at-2 c = omega (arith, fits (under c))
+overflow_cast-at-then-n-gt0 : tie.Need-overflow_cast-at-then-n-gt0
+overflow_cast-at-then-n-gt0 c = omega (arith, fits (under c))
 
-add_at : tie.Need-overflow-add-at
-add_at c = omega (arith, place c)
+overflow_add-at : tie.Need-overflow_add-at
+overflow_add-at c = omega (arith, place c)
 
-sub_at : tie.Need-overflow-sub-at
-sub_at c = search rules
+overflow_sub-at : tie.Need-overflow_sub-at
+overflow_sub-at c = search rules
 
-element-copy-out-unseen : tie.Need-element-copy-out-unseen
-element-copy-out-unseen c = omega (arith, place c)
+bounds-p-at : tie.Need-bounds-p-at
+bounds-p-at c = omega (arith, place c)
 
-unseen-requires-2 : tie.Need-unseen-requires-2
-unseen-requires-2 c κs = search rules
+unseen-requires-then-n-gt0 : tie.Need-unseen-requires-then-n-gt0
+unseen-requires-then-n-gt0 c κs = search rules
 
-returns : tie.Need-returns
-returns c =
-    let s = c.before.before in
-    let t = under s in
-    let m = t.before.match in
+returns-then-n-gt0 : tie.Need-returns-then-n-gt0
+returns-then-n-gt0 c =
+    let s = c.before in
+    let t = under s.before in
+    let m = t.match-kind in
     let q = m.p in
     let n = get_or q.counts m.pile 0 in
-    let k : s.pile-start.result + n - 1 ≡ pile_start m.pile + (n - 1) = omega (arith, s.pile-start.ensures, s.before.if3.true) in
-    back_card q m.pile (n + 1) (get_or q.deal (s.pile-start.result + n - 1) 0) c.unseen2.result refl s.before.if3.true (ap (λ (x : ℕ). get_or q.deal x 0) k) c.unseen2.ensures
-    ∙ (mid t.before).some t.if2.taken
+    let k : s.pile_start.result + n - 1 ≡ pile_start m.pile + (n - 1) = omega (arith, s.pile_start.ensures, s.if-n-gt0.true) in
+    back_card q m.pile (n + 1) (get_or q.deal (s.pile_start.result + n - 1) 0) c.unseen-then-n-gt0.result refl s.if-n-gt0.true (ap (λ (x : ℕ). get_or q.deal x 0) k) c.unseen-then-n-gt0.ensures
+    ∙ (mid t.before).some t.if-pile-lt-N_PILES.taken
 
-returns-2 : tie.Need-returns-2
-returns-2 c =
-    let t = c.before.before in
-    let m = t.before.match in
-    back_emptied m.p m.pile (get_or m.p.counts m.pile 0 + 1) refl c.if3.false ∙ (mid t.before).some t.if2.true
+returns-else-n-gt0 : tie.Need-returns-else-n-gt0
+returns-else-n-gt0 c =
+    let t = c.before in
+    let m = t.match-kind in
+    back_emptied m.p m.pile (get_or m.p.counts m.pile 0 + 1) refl c.if-n-gt0.false ∙ (mid t.before).some t.if-pile-lt-N_PILES.true
 
-returns-3 : tie.Need-returns-3
-returns-3 c = (mid c.before).none c.if2.false
+returns-else-pile-lt-N_PILES : tie.Need-returns-else-pile-lt-N_PILES
+returns-else-pile-lt-N_PILES c = (mid c.before).none c.if-pile-lt-N_PILES.false
 
-pub to-table-spec : {M : Type 1} → statement M
-to-table-spec = tie.close (tie.spec suit-requires cast-suit element-copy-out-p add-p element-write-p unseen-requires element-copy-out-one-less one-less-requires element-write-p-2 seen-requires bare-pile-requires bare-pile-requires-2 element-copy-out-n add-p-2 element-write-p-3 pile-start-requires cast-at cast-at-2 add_at sub_at element-copy-out-unseen unseen-requires-2 returns returns-2 returns-3)
+pub to_table_spec : {M : Type 1} → statement M
+to_table_spec =
+    tie.close
+    (tie.spec
+    suit-suit-requires
+    overflow_cast-suit
+    bounds-p-suit
+    overflow_add-p
+    bounds-p-suit-in-3
+    unseen-requires
+    bounds-p-suit-in-1
+    one_less-requires
+    bounds-p-suit-in-1-2
+    seen-requires
+    bare_pile-pile-requires
+    bare_pile-pile-requires-in_default
+    bounds-p-pile
+    overflow_add-p-then-pile-lt-N_PILES
+    bounds-p-pile-then-pile-lt-N_PILES
+    pile_start-requires
+    overflow_cast-at
+    overflow_cast-at-then-n-gt0
+    overflow_add-at
+    overflow_sub-at
+    bounds-p-at
+    unseen-requires-then-n-gt0
+    returns-then-n-gt0
+    returns-else-n-gt0
+    returns-else-pile-lt-N_PILES)

@@ -3,17 +3,23 @@
 use Rattle.play.proofs.unmake.undo_move.Statement.{statement}
 use Rattle.play.proofs.unmake.undo_move.Tie as tie
 
-to-deck-requires : tie.Need-to-deck-requires
-to-deck-requires c κs = (c.before.requires.0, c.before.requires.1, c.match.keys1)
+to_deck-requires : tie.Need-to_deck-requires
+to_deck-requires c κs = (c.requires.0, c.requires.1, c.in_default.keys1)
 
-to-table-requires : tie.Need-to-table-requires
-to-table-requires c κs = (c.before.requires.0, c.before.requires.1, c.match.rest.1)
+to_table-requires : tie.Need-to_table-requires
+to_table-requires c κs = (c.requires.0, c.requires.1, c.in_default.rest.1)
 
-returns : tie.Need-returns
-returns c = c.to-deck.ensures
+returns-in-0 : tie.Need-returns-in-0
+returns-in-0 c = c.to_deck.ensures
 
-returns-2 : tie.Need-returns-2
-returns-2 c = c.to-table.ensures
+returns-in_default : tie.Need-returns-in_default
+returns-in_default c = c.to_table.ensures
 
-pub undo-move-spec : {M : Type 1} → statement M
-undo-move-spec = tie.close (tie.spec to-deck-requires to-table-requires returns returns-2)
+pub undo_move_spec : {M : Type 1} → statement M
+undo_move_spec =
+    tie.close
+    (tie.spec
+    to_deck-requires
+    to_table-requires
+    returns-in-0
+    returns-in_default)
