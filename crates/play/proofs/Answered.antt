@@ -5,8 +5,8 @@ use mathlib.Core.Path.{◌≡◌, sym, ◌∙◌}
 use borrow.Author.Tests.{not-true, not-false}
 
 module _ {r b : Bool} (e : r ≡ b) where
-  pub denied : not r ≡ true → b ≡ false
-  denied h = sym e ∙ not-true r h
+  pub denied : r ≡ false → b ≡ false
+  denied h = sym e ∙ h
 
-  pub granted : not r ≡ false → b ≡ true
-  granted h = sym e ∙ not-false r h
+  pub granted : r ≡ true → b ≡ true
+  granted h = sym e ∙ h

@@ -7,19 +7,25 @@ use Rattle.proper.proofs.Judged.{is_wrong, is_right, is_proper_lem}
 use Rattle.engine_deck.proofs.deck.Statement.{statement}
 use Rattle.engine_deck.proofs.deck.Tie as tie
 
-is-proper-requires : tie.Need-is-proper-requires
-is-proper-requires c κs = search rules
+is_proper-requires : tie.Need-is_proper-requires
+is_proper-requires c κs = search rules
+
+returns-then-not-is_proper : tie.Need-returns-then-not-is_proper
+unfolding deck_answer improper
+returns-then-not-is_proper c = rw (is_wrong c.args.p c.is_proper.ensures c.if-not-is_proper.true)
+
+cards-requires : tie.Need-cards-requires
+cards-requires c κs = (facts c.args.p (is_proper_lem c.args.p c.is_proper.ensures c.if-not-is_proper.false)).left
 
 returns : tie.Need-returns
 unfolding deck_answer improper
-returns c = rw (is_wrong c.before.before.args.p c.before.is-proper.ensures c.if1.true)
+returns c = rw (is_right c.args.p c.is_proper.ensures c.if-not-is_proper.false, c.cards.ensures)
 
-cards-requires : tie.Need-cards-requires
-cards-requires c κs = (facts c.before.before.before.args.p (is_proper_lem c.before.before.before.args.p c.before.before.is-proper.ensures c.before.if1.false)).left
-
-returns-2 : tie.Need-returns-2
-unfolding deck_answer improper
-returns-2 c = rw (is_right c.before.before.before.before.args.p c.before.before.before.is-proper.ensures c.before.before.if1.false, c.cards2.ensures)
-
-pub deck-spec : {M : Type 1} → statement M
-deck-spec = tie.close (tie.spec is-proper-requires returns cards-requires returns-2)
+pub deck_spec : {M : Type 1} → statement M
+deck_spec =
+    tie.close
+    (tie.spec
+    is_proper-requires
+    returns-then-not-is_proper
+    cards-requires
+    returns)

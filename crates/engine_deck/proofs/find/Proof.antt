@@ -11,26 +11,33 @@ use Rattle.proper.proofs.Judged.{is_wrong, is_right, is_proper_lem}
 use Rattle.engine_deck.proofs.find.Statement.{statement}
 use Rattle.engine_deck.proofs.find.Tie as tie
 
-is-proper-requires : tie.Need-is-proper-requires
-is-proper-requires c κs = search rules
+is_proper-requires : tie.Need-is_proper-requires
+is_proper-requires c κs = search rules
+
+returns-then-not-is_proper : tie.Need-returns-then-not-is_proper
+unfolding find_answer find_refusal
+returns-then-not-is_proper c = rw (is_wrong c.args.p c.is_proper.ensures c.if-not-is_proper.true)
+
+returns-then-card-gt-LAST_CARD : tie.Need-returns-then-card-gt-LAST_CARD
+unfolding find_answer find_refusal
+returns-then-card-gt-LAST_CARD c = rw (is_right c.args.p c.is_proper.ensures c.if-not-is_proper.false, lt-ltb 51 _ c.if-card-gt-LAST_CARD.true)
+
+find_card-f-requires : tie.Need-find_card-f-requires
+find_card-f-requires c κs = is_proper_lem c.args.p c.is_proper.ensures c.if-not-is_proper.false
 
 returns : tie.Need-returns
 unfolding find_answer find_refusal
-returns c = rw (is_wrong c.before.before.args.p c.before.is-proper.ensures c.if1.true)
-
-returns-2 : tie.Need-returns-2
-unfolding find_answer find_refusal
-returns-2 c = rw (is_right c.before.before.before.args.p c.before.before.is-proper.ensures c.before.if1.false, lt-ltb 51 _ c.if2.true)
-
-find-card-requires : tie.Need-find-card-requires
-find-card-requires c κs = is_proper_lem c.before.before.before.args.p c.before.before.is-proper.ensures c.before.if1.false
-
-returns-3 : tie.Need-returns-3
-unfolding find_answer find_refusal
-returns-3 c =
-    let p = c.before.before.before.before.args.p in
-    rw (is_right p c.before.before.before.is-proper.ensures c.before.before.if1.false, le-ltb 51 _ c.before.if2.false)
-    (ap₂ {C = Located} (λ (f : Bool) (k : ℕ). record { refusal = 0; position = p; found = f; place = k }) c.find-card.ensures.0 c.find-card.ensures.1)
+returns c =
+    let p = c.args.p in
+    rw (is_right p c.is_proper.ensures c.if-not-is_proper.false, le-ltb 51 _ c.if-card-gt-LAST_CARD.false)
+    (ap₂ {C = Located} (λ (f : Bool) (k : ℕ). record { refusal = 0; position = p; found = f; place = k }) c.find_card-f.ensures.0 c.find_card-f.ensures.1)
 
 pub find_spec : {M : Type 1} → statement M
-find_spec = tie.close (tie.spec is-proper-requires returns returns-2 find-card-requires returns-3)
+find_spec =
+    tie.close
+    (tie.spec
+    is_proper-requires
+    returns-then-not-is_proper
+    returns-then-card-gt-LAST_CARD
+    find_card-f-requires
+    returns)

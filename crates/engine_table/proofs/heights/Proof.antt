@@ -6,16 +6,21 @@ use Rattle.proper.proofs.Judged.{is_wrong, is_right}
 use Rattle.engine_table.proofs.heights.Statement.{statement}
 use Rattle.engine_table.proofs.heights.Tie as tie
 
-is-proper-requires : tie.Need-is-proper-requires
-is-proper-requires c κs = search rules
+is_proper-requires : tie.Need-is_proper-requires
+is_proper-requires c κs = search rules
+
+returns-then-not-is_proper : tie.Need-returns-then-not-is_proper
+unfolding heights_answer improper
+returns-then-not-is_proper c = rw (is_wrong c.args.p c.is_proper.ensures c.if-not-is_proper.true)
 
 returns : tie.Need-returns
 unfolding heights_answer improper
-returns c = rw (is_wrong c.before.before.args.p c.before.is-proper.ensures c.if1.true)
+returns c = rw (is_right c.args.p c.is_proper.ensures c.if-not-is_proper.false)
 
-returns-2 : tie.Need-returns-2
-unfolding heights_answer improper
-returns-2 c = rw (is_right c.before.before.before.args.p c.before.before.is-proper.ensures c.before.if1.false)
-
-pub heights-spec : {M : Type 1} → statement M
-heights-spec = tie.close (tie.spec is-proper-requires returns returns-2)
+pub heights_spec : {M : Type 1} → statement M
+heights_spec =
+    tie.close
+    (tie.spec
+    is_proper-requires
+    returns-then-not-is_proper
+    returns)

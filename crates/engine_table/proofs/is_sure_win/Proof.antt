@@ -7,25 +7,32 @@ use Rattle.proper.proofs.Judged.{is_wrong, is_right}
 use Rattle.engine_table.proofs.is_sure_win.Statement.{statement}
 use Rattle.engine_table.proofs.is_sure_win.Tie as tie
 
-is-proper-requires : tie.Need-is-proper-requires
-is-proper-requires c κs = search rules
+is_proper-requires : tie.Need-is_proper-requires
+is_proper-requires c κs = search rules
+
+returns-then-not-is_proper : tie.Need-returns-then-not-is_proper
+unfolding sure_win_answer improper told
+returns-then-not-is_proper c = rw (is_wrong c.args.p c.is_proper.ensures c.if-not-is_proper.true)
+
+returns-then-p-gt1 : tie.Need-returns-then-p-gt1
+unfolding sure_win_answer improper told is_sure_win
+returns-then-p-gt1 c =
+    rw (is_right c.args.p c.is_proper.ensures c.if-not-is_proper.false, lt-leb _ 1 c.if-p-gt1.true)
+
+is_all_up-requires : tie.Need-is_all_up-requires
+is_all_up-requires c κs = search rules
 
 returns : tie.Need-returns
-unfolding sure_win_answer improper told
-returns c = rw (is_wrong c.before.before.args.p c.before.is-proper.ensures c.if1.true)
-
-returns-2 : tie.Need-returns-2
 unfolding sure_win_answer improper told is_sure_win
-returns-2 c =
-    rw (is_right c.before.before.before.before.before.args.p c.before.before.before.before.is-proper.ensures c.before.before.before.if1.false, lt-leb _ 1 c.if2.true)
+returns c =
+    rw (is_right c.args.p c.is_proper.ensures c.if-not-is_proper.false, le-leb _ _ c.if-p-gt1.false, c.is_all_up.ensures)
 
-is-all-up-requires : tie.Need-is-all-up-requires
-is-all-up-requires c κs = search rules
-
-returns-3 : tie.Need-returns-3
-unfolding sure_win_answer improper told is_sure_win
-returns-3 c =
-    rw (is_right c.before.before.before.before.before.before.before.args.p c.before.before.before.before.before.before.is-proper.ensures c.before.before.before.before.before.if1.false, le-leb _ _ c.before.before.if2.false, c.is-all-up.ensures)
-
-pub is-sure-win-spec : {M : Type 1} → statement M
-is-sure-win-spec = tie.close (tie.spec is-proper-requires returns returns-2 is-all-up-requires returns-3)
+pub is_sure_win_spec : {M : Type 1} → statement M
+is_sure_win_spec =
+    tie.close
+    (tie.spec
+    is_proper-requires
+    returns-then-not-is_proper
+    returns-then-p-gt1
+    is_all_up-requires
+    returns)

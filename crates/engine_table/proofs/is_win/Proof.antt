@@ -6,19 +6,25 @@ use Rattle.proper.proofs.Judged.{is_wrong, is_right}
 use Rattle.engine_table.proofs.is_win.Statement.{statement}
 use Rattle.engine_table.proofs.is_win.Tie as tie
 
-is-proper-requires : tie.Need-is-proper-requires
-is-proper-requires c κs = search rules
+is_proper-requires : tie.Need-is_proper-requires
+is_proper-requires c κs = search rules
+
+returns-then-not-is_proper : tie.Need-returns-then-not-is_proper
+unfolding win_answer improper told
+returns-then-not-is_proper c = rw (is_wrong c.args.p c.is_proper.ensures c.if-not-is_proper.true)
+
+is_full-requires : tie.Need-is_full-requires
+is_full-requires c κs = search rules
 
 returns : tie.Need-returns
-unfolding win_answer improper told
-returns c = rw (is_wrong c.before.before.args.p c.before.is-proper.ensures c.if1.true)
-
-is-full-requires : tie.Need-is-full-requires
-is-full-requires c κs = search rules
-
-returns-2 : tie.Need-returns-2
 unfolding win_answer improper told is_win
-returns-2 c = rw (is_right c.before.before.before.before.args.p c.before.before.before.is-proper.ensures c.before.before.if1.false, c.is-full.ensures)
+returns c = rw (is_right c.args.p c.is_proper.ensures c.if-not-is_proper.false, c.is_full.ensures)
 
-pub is-win-spec : {M : Type 1} → statement M
-is-win-spec = tie.close (tie.spec is-proper-requires returns is-full-requires returns-2)
+pub is_win_spec : {M : Type 1} → statement M
+is_win_spec =
+    tie.close
+    (tie.spec
+    is_proper-requires
+    returns-then-not-is_proper
+    is_full-requires
+    returns)

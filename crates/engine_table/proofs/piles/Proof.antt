@@ -8,40 +8,40 @@ use Rattle.proper.proofs.Judged.{is_wrong, is_right, is_proper_lem}
 use Rattle.engine_table.proofs.piles.Statement.{statement}
 use Rattle.engine_table.proofs.piles.Tie as tie
 
-is-proper-requires : tie.Need-is-proper-requires
-is-proper-requires c κs = search rules
+is_proper-requires : tie.Need-is_proper-requires
+is_proper-requires c κs = search rules
+
+returns-then-not-is_proper : tie.Need-returns-then-not-is_proper
+unfolding piles_answer piles_refusal piles_buffer
+returns-then-not-is_proper c = rw (is_wrong c.args.p c.is_proper.ensures c.if-not-is_proper.true) (refl, refl)
+
+returns-then-out-lt-PILE_BYTES : tie.Need-returns-then-out-lt-PILE_BYTES
+unfolding piles_answer piles_refusal piles_buffer
+returns-then-out-lt-PILE_BYTES c =
+    rw (is_right c.args.p c.is_proper.ensures c.if-not-is_proper.false, lt-ltb _ 91 c.if-out-lt-PILE_BYTES.true) (refl, refl)
+
+compute_visible_piles-requires : tie.Need-compute_visible_piles-requires
+compute_visible_piles-requires c κs =
+    (is_proper_lem c.args.p c.is_proper.ensures c.if-not-is_proper.false, c.if-out-lt-PILE_BYTES.false)
+
+shape_of-out : tie.Need-shape_of-out
+shape_of-out c = search rules
 
 returns : tie.Need-returns
 unfolding piles_answer piles_refusal piles_buffer
-returns c = rw (is_wrong c.before.before.before.args.p c.before.is-proper.ensures c.if1.true) (refl, refl)
-
-returns-2 : tie.Need-returns-2
-unfolding piles_answer piles_refusal piles_buffer
-returns-2 c =
-    rw (is_right c.before.before.before.before.args.p c.before.before.is-proper.ensures c.before.if1.false, lt-ltb _ 91 c.if2.true) (refl, refl)
-
-compute-visible-piles-requires : tie.Need-compute-visible-piles-requires
-compute-visible-piles-requires c κs =
-    (is_proper_lem c.before.before.before.before.before.args.p c.before.before.before.is-proper.ensures c.before.before.if1.false, c.before.if2.false)
-
-same_length : tie.Need-same-length
-same_length c = search rules
-
-returns-3 : tie.Need-returns-3
-unfolding piles_answer piles_refusal piles_buffer
-returns-3 c =
-    let s = c.before.before.before.before.before.before.before.before in
-    let f = c.before.before.compute-visible-piles.ensures in
-    rw (is_right s.args.p c.before.before.before.before.before.before.is-proper.ensures c.before.before.before.before.before.if1.false, le-ltb _ _ c.before.before.before.before.if2.false)
+returns c =
+    let s = c.before in
+    let f = c.compute_visible_piles.ensures in
+    rw (is_right s.args.p c.is_proper.ensures c.if-not-is_proper.false, le-ltb _ _ c.if-out-lt-PILE_BYTES.false)
     (λ i. record { refusal = 0; position = s.args.p; lengths = f.0 i }, f.1)
 
-pub piles-spec : {M : Type 1} → statement M
-piles-spec =
+pub piles_spec : {M : Type 1} → statement M
+piles_spec =
     tie.close
     (tie.spec
-    is-proper-requires
-    returns
-    returns-2
-    compute-visible-piles-requires
-    same_length
-    returns-3)
+    is_proper-requires
+    returns-then-not-is_proper
+    returns-then-out-lt-PILE_BYTES
+    compute_visible_piles-requires
+    shape_of-out
+    returns)

@@ -8,16 +8,22 @@ use Rattle.hints.proofs.masks_for.Tie as tie
 pruned-requires : tie.Need-pruned-requires
 pruned-requires c κs = search rules
 
-returns : tie.Need-returns
+returns-then-pruned : tie.Need-returns-then-pruned
 unfolding masks_for
-returns c = rw (c.before.if1.true, c.pruned.ensures)
+returns-then-pruned c = rw (c.if-pruned.true, c.pruned.ensures)
 
 masks-requires : tie.Need-masks-requires
 masks-requires c κs = search rules
 
-returns-2 : tie.Need-returns-2
+returns : tie.Need-returns
 unfolding masks_for
-returns-2 c = rw (c.before.if1.false, c.masks.ensures)
+returns c = rw (c.if-pruned.false, c.masks.ensures)
 
-pub masks-for-spec : {M : Type 1} → statement M
-masks-for-spec = tie.close (tie.spec pruned-requires returns masks-requires returns-2)
+pub masks_for_spec : {M : Type 1} → statement M
+masks_for_spec =
+    tie.close
+    (tie.spec
+    pruned-requires
+    returns-then-pruned
+    masks-requires
+    returns)

@@ -56,7 +56,7 @@ is_valid_move-requires c κs = (true-T _ (fair c), (begun c).requires.0, (begun 
 
 returns-then-not-is_valid_move : tie.Need-returns-then-not-is_valid_move
 unfolding leads_to
-returns-then-not-is_valid_move c = rw (fair c.before, denied c.is_valid_move.ensures c.if-not-is_valid_move.true)
+returns-then-not-is_valid_move c = rw (fair c.before.before, denied c.is_valid_move.ensures c.if-not-is_valid_move.true)
 
 do_move-again-requires : tie.Need-do_move-again-requires
 do_move-again-requires c κs = (true-T _ (fair (allowed c)), true-T _ (may c))

@@ -42,7 +42,7 @@ loop-i-smaller : tie.Need-loop-i-smaller invariant-loop-i decreases-loop-i
 loop-i-smaller c = omega arith
 
 loop-i-preserved : tie.Need-loop-i-preserved invariant-loop-i decreases-loop-i
-loop-i-preserved c = (omega arith, below_more _ _ (turn c.before).loop-i.inv.1 c.if-a-i.false)
+loop-i-preserved c = (omega arith, below_more _ _ (turn c.before).loop-i.invariant.1 c.if-a-i.false)
 
 returns : tie.Need-returns invariant-loop-i decreases-loop-i
 returns c =

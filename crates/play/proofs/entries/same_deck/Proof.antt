@@ -45,7 +45,7 @@ unfolding same_deck
 returns c =
     let d = counted c.before in
     let a = (begun d).args in
-    let e : a.p.left ≡ a.q.left = d.if-p-left.left in
+    let e : a.p.left ≡ a.q.left = d.if-p-left.false in
     rw (eq-eqb _ _ e) (c.same_bytes.ensures ∙ ap (λ (n : ℕ). same_list (take n a.p.deck) (take a.q.left a.q.deck)) (sym e))
 
 pub same_deck_spec : {M : Type 1} → statement M

@@ -71,7 +71,7 @@ returns-then-not-same_heights : tie.Need-returns-then-not-same_heights
 unfolding same_in_deal
 returns-then-not-same_heights c =
     let d = c.before in
-    rw (step (counted d.before), counts d, denied c.same_heights.ensures c.if-not-same_heights.true)
+    rw (step (counted d.before), counts d.before, denied c.same_heights.ensures c.if-not-same_heights.true)
 
 same_deck-requires : tie.Need-same_deck-requires
 same_deck-requires c κs = search rules
@@ -81,7 +81,7 @@ unfolding same_in_deal
 returns-then-not-same_deck c =
     let e = c.before in
     let d = raised e.before in
-    rw (step (counted d), counts d, heights e, denied c.same_deck.ensures c.if-not-same_deck.true)
+    rw (step (counted d), counts d, heights e.before, denied c.same_deck.ensures c.if-not-same_deck.true)
 
 returns-then-p-q-2 : tie.Need-returns-then-p-q-2
 unfolding same_in_deal
@@ -89,7 +89,7 @@ returns-then-p-q-2 c =
     let f = c.before in
     let e = drawn f.before.before in
     let d = raised e in
-    rw (step (counted d), counts d, heights e, deck f, ne_eqb _ _ c.if5.true)
+    rw (step (counted d), counts d, heights e, deck f.before.before, ne_eqb _ _ c.if-p-q-2.true)
 
 returns : tie.Need-returns
 unfolding same_in_deal
@@ -98,7 +98,7 @@ returns c =
     let f = turned g.before in
     let e = drawn f in
     let d = raised e in
-    rw (step (counted d), counts d, heights e, deck f, eq-eqb _ _ g.if5.false)
+    rw (step (counted d), counts d, heights e, deck f, eq-eqb _ _ g.if-p-q-2.false)
 
 pub same_in_deal_spec : {M : Type 1} → statement M
 same_in_deal_spec =

@@ -87,7 +87,7 @@ leads_to-requires : tie.Need-leads_to-requires
 leads_to-requires c κs =
     let d = asked-way c.before in
     let b = begun d in
-    (omega (arith, d.if-kind-gt-LAST_KIND.left), omega (arith, d.if-card-gt-LAST_CARD.left), b.requires, ap (λ (q : Position). q.deal) c.undo_move-q.ensures ∙ kept_deal b.args.p _ _ _)
+    (omega (arith, d.if-kind-gt-LAST_KIND.false), omega (arith, d.if-card-gt-LAST_CARD.false), b.requires, ap (λ (q : Position). q.deal) c.undo_move-q.ensures ∙ kept_deal b.args.p _ _ _)
 
 returns-then-not-leads_to : tie.Need-returns-then-not-leads_to
 unfolding entry_byte entry_kind entry_card

@@ -4,10 +4,10 @@ use Rattle.play.proofs.make.do_move.Statement.{statement}
 use Rattle.play.proofs.make.do_move.Tie as tie
 
 from_deck-requires : tie.Need-from_deck-requires
-from_deck-requires c κs = (c.requires.0, c.requires.1, c.in_default.keys1)
+from_deck-requires c κs = (c.requires.0, c.requires.1, c.in-0.is)
 
 from_table-requires : tie.Need-from_table-requires
-from_table-requires c κs = (c.requires.0, c.requires.1, c.in_default.rest.1)
+from_table-requires c κs = (c.requires.0, c.requires.1, c.in_default.in_default-own.rest.1)
 
 returns-in-0 : tie.Need-returns-in-0
 returns-in-0 c = c.from_deck.ensures

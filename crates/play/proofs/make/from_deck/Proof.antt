@@ -21,6 +21,7 @@ use Rattle.play.proofs.Written.{drawn_up, drawn_laid}
 use Rattle.play.proofs.Halfway.{from_deck_up, from_deck}
 use Rattle.play.proofs.make.from_deck.Statement.{statement}
 use Rattle.play.proofs.make.from_deck.Tie as tie
+use Rattle.play.proofs.make.from_deck.Lts.{then-kind-eq-DECK_STACK, else-kind-eq-DECK_STACK}
 
 -- ---- the way back to the card's suit, and to what was given
 
@@ -63,12 +64,12 @@ drew c =
     let kind = b.args.kind in
     let s = (drawn d).suit-suit.result in
     let e = (drawn d).suit-suit.ensures in
-    ⊎_elim
-    (λ w. from_deck_up p card kind c.if-kind-eq-DECK_STACK.p w.0.taken (w.2 ∙ drawn_up p card s e k.place_of-place.result d.draw-rest.result k.place_of-place.ensures d.draw-rest.ensures))
-    (λ w.
-    from_deck p card kind c.if-kind-eq-DECK_STACK.p (⊎_elim (λ z. absurd (w.0.left z)) (λ z. z) b.requires.2)
-    (w.2 ∙ drawn_laid p card s e k.place_of-place.result d.draw-rest.result w.1.result k.place_of-place.ensures d.draw-rest.ensures w.1.ensures))
-    c.if-kind-eq-DECK_STACK.branch
+    elim c.if-kind-eq-DECK_STACK.branch [
+      then-kind-eq-DECK_STACK w ↦ from_deck_up p card kind c.if-kind-eq-DECK_STACK.p w.if-kind-eq-DECK_STACK.true (w.p-is ∙ drawn_up p card s e k.place_of-place.result d.draw-rest.result k.place_of-place.ensures d.draw-rest.ensures)
+    | else-kind-eq-DECK_STACK w ↦
+      from_deck p card kind c.if-kind-eq-DECK_STACK.p (⊎_elim (λ z. absurd (w.if-kind-eq-DECK_STACK.false z)) (λ z. z) b.requires.2)
+    (w.p-is ∙ drawn_laid p card s e k.place_of-place.result d.draw-rest.result w.seen.result k.place_of-place.ensures d.draw-rest.ensures w.seen.ensures)
+    ]
 
 -- ---- what the code asks
 

@@ -20,6 +20,7 @@ use Rattle.play.proofs.Written.{down_laid, up_lifted, uncovered_card, uncovered_
 use Rattle.play.proofs.Halfway.{Making, from_stack, from_pile_up, to_pile}
 use Rattle.play.proofs.make.from_table.Statement.{statement}
 use Rattle.play.proofs.make.from_table.Tie as tie
+use Rattle.play.proofs.make.from_table.Lts.{in-3, in-1, in_default, then-pile-lt-N_PILES+then-n-gt1, then-pile-lt-N_PILES+else-n-gt1, else-pile-lt-N_PILES}
 
 -- ---- the way back from each place to where the kinds come together, and to what was given
 
@@ -54,14 +55,13 @@ mid c =
     let s = c.suit-suit.result in
     let e = c.suit-suit.ensures in
     let m = c.match-kind in
-    ⊎_elim
-    (λ w. from_stack p card kind m.p m.byte m.pile w.0.keys1 (w.4 ∙ down_laid p card s e w.2.result w.3.result w.2.ensures w.3.ensures) w.5 w.6)
-    (⊎_elim
-    (λ w.
-    from_pile_up p card kind m.p m.byte m.pile b.requires.0 w.0.keys2 (w.4 ∙ up_lifted p card s e w.2.result w.2.ensures)
-    (w.5 ∙ ap (λ (i : ℕ). bool_byte (ltb i 7)) (sym w.6)) (w.6 ∙ w.3.ensures))
-    (λ w. to_pile p card kind m.p m.byte m.pile b.requires.0 b.requires.1 (rest b.requires.2 w.0.rest) w.2 w.3 (w.4 ∙ w.1.ensures)))
-    m.branch
+    elim m.branch [
+      in-3 w ↦ from_stack p card kind m.p m.byte m.pile w.in-3.is (w.p-is ∙ down_laid p card s e w.one_less.result w.seen.result w.one_less.ensures w.seen.ensures) w.byte-is w.pile-is
+    | in-1 w ↦
+      from_pile_up p card kind m.p m.byte m.pile b.requires.0 w.in-1.is (w.p-is ∙ up_lifted p card s e w.unseen.result w.unseen.ensures)
+      (w.byte-is ∙ ap (λ (i : ℕ). bool_byte (ltb i 7)) (sym w.pile-is)) (w.pile-is ∙ w.head_pile-pile.ensures)
+    | in_default w ↦ to_pile p card kind m.p m.byte m.pile b.requires.0 b.requires.1 (rest b.requires.2 w.in_default.in_default-own.rest) w.p-is w.byte-is (w.pile-is ∙ w.head_pile-pile-in_default.ensures)
+    ]
 
 -- the count of the pile that is turned
 fits : (c : tie.Then-pile-lt-N_PILES) → get_or c.match-kind.p.counts c.match-kind.pile 0 ≤ c.match-kind.pile + 1
@@ -72,7 +72,7 @@ fits c =
 place : (c : tie.After-pile_start) → let m = (under c).match-kind in c.pile_start.result + get_or m.p.counts m.pile 0 ≤ 52
 place c =
     let t = under c in
-    in_deal t.match-kind.pile (get_or t.match-kind.p.counts t.match-kind.pile 0) c.pile_start.result t.if-pile-lt-N_PILES.taken (fits t) c.pile_start.ensures
+    in_deal t.match-kind.pile (get_or t.match-kind.p.counts t.match-kind.pile 0) c.pile_start.result t.if-pile-lt-N_PILES.true (fits t) c.pile_start.ensures
 
 -- ---- the pile is turned, or there is none
 
@@ -85,17 +85,20 @@ end c =
     let q = m.p in
     let n = get_or q.counts m.pile 0 in
     let h = mid c.before in
-    ⊎_elim
-    (λ w.
-    let x = get_or q.deal (w.4.result + n - 2) 0 in
-    let k : w.4.result + n - 2 ≡ pile_start m.pile + (n - 2) = omega (arith, w.4.ensures, w.3.taken) in
-    put m.byte w.7 w.8
-    ∙ uncovered_card q m.pile w.2.result m.byte x w.6.result w.2.ensures w.3.taken (ap (λ (y : ℕ). get_or q.deal y 0) k) w.6.ensures
-    ∙ h.some w.0.taken)
-    (⊎_elim
-    (λ w. put m.byte w.4 w.5 ∙ uncovered_emptied q m.pile w.2.result m.byte w.2.ensures w.3.left ∙ h.some w.0.taken)
-    (λ w. put m.byte w.1 w.2 ∙ h.none w.0.left))
-    c.if-pile-lt-N_PILES.branch
+    elim c.if-pile-lt-N_PILES.branch [
+      then-pile-lt-N_PILES+then-n-gt1 w ↦
+        let x = get_or q.deal (w.pile_start.result + n - 2) 0 in
+        let k : w.pile_start.result + n - 2 ≡ pile_start m.pile + (n - 2) = omega (arith, w.pile_start.ensures, w.if-n-gt1.true) in
+        let l = w.one_less-then-pile-lt-N_PILES in
+        let u = w.seen-then-n-gt1 in
+        put m.byte w.p-is w.turned-is
+        ∙ uncovered_card q m.pile l.result m.byte x u.result l.ensures w.if-n-gt1.true (ap (λ (y : ℕ). get_or q.deal y 0) k) u.ensures
+        ∙ h.some w.if-pile-lt-N_PILES.true
+    | then-pile-lt-N_PILES+else-n-gt1 w ↦
+        let l = w.one_less-then-pile-lt-N_PILES in
+        put m.byte w.p-is w.turned-is ∙ uncovered_emptied q m.pile l.result m.byte l.ensures w.if-n-gt1.false ∙ h.some w.if-pile-lt-N_PILES.true
+    | else-pile-lt-N_PILES w ↦ put m.byte w.p-is w.turned-is ∙ h.none w.if-pile-lt-N_PILES.false
+    ]
 
 -- ---- what the code asks
 

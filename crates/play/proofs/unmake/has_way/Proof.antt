@@ -10,7 +10,7 @@ use Rattle.play.proofs.unmake.has_way.Tie as tie
 
 returns-then-byte-eq0 : tie.Need-returns-then-byte-eq0
 unfolding has_way
-returns-then-byte-eq0 c = rw (c.in_default.keys2, eq-eqb c.args.byte 0 c.if-byte-eq0.true)
+returns-then-byte-eq0 c = rw (c.in-1.is, eq-eqb c.args.byte 0 c.if-byte-eq0.true)
 
 bare_pile-requires : tie.Need-bare_pile-requires
 bare_pile-requires c κs = counts_fit c.args.p c.requires
@@ -20,25 +20,25 @@ bare_pile-requires-in_default c κs = counts_fit c.args.p c.requires
 
 returns-in-0 : tie.Need-returns-in-0
 unfolding has_way
-returns-in-0 c = rw c.in_default.keys1
+returns-in-0 c = rw c.in-0.is
 
 returns-else-byte-eq0 : tie.Need-returns-else-byte-eq0
 unfolding has_way left_pile
-returns-else-byte-eq0 c = rw (c.bare_pile.ensures, c.in_default.keys2, ne_eqb c.args.byte 0 c.if-byte-eq0.false)
+returns-else-byte-eq0 c = rw (c.bare_pile.ensures, c.in-1.is, ne_eqb c.args.byte 0 c.if-byte-eq0.false)
 
 returns-in-2 : tie.Need-returns-in-2
 unfolding has_way
-returns-in-2 c = rw c.in_default.keys3
+returns-in-2 c = rw c.in-2.is
 
 returns-in-3 : tie.Need-returns-in-3
 unfolding has_way
-returns-in-3 c = rw c.in_default.keys4
+returns-in-3 c = rw c.in-3.is
 
 returns-in_default : tie.Need-returns-in_default
 unfolding has_way left_pile
 returns-in_default c =
     let a = c.args in
-    rw c.bare_pile-in_default.ensures (sym (way_last a.p a.card a.kind (none c.in_default.rest) a.byte))
+    rw c.bare_pile-in_default.ensures (sym (way_last a.p a.card a.kind (none c.in_default.in_default-own.rest) a.byte))
 
 pub has_way_spec : {M : Type 1} → statement M
 has_way_spec =

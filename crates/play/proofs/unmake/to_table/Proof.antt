@@ -14,6 +14,7 @@ use Rattle.play.proofs.Written.{lifted_up, down_laid, back_card, back_emptied}
 use Rattle.play.proofs.Halfway.{Going, to_stack, head_down, card_down, head_back}
 use Rattle.play.proofs.unmake.to_table.Statement.{statement}
 use Rattle.play.proofs.unmake.to_table.Tie as tie
+use Rattle.play.proofs.unmake.to_table.Lts.{in-3, in-1+then-byte-ne0, in-1+else-byte-ne0, in_default}
 
 -- ---- the way back from each place to where the kinds come together, and to what was given
 
@@ -46,16 +47,15 @@ mid c =
     let s = c.suit-suit.result in
     let e = c.suit-suit.ensures in
     let m = c.match-kind in
-    ⊎_elim
-    (λ w. to_stack p byte card kind m.p m.pile w.0.keys1 (w.3 ∙ lifted_up p card s e w.2.result w.2.ensures) w.4)
-    (⊎_elim
-    (λ w.
-    head_down p byte card kind m.p m.pile b.requires.0 b.requires.1 w.0.keys2 w.4.taken
-    (w.6 ∙ down_laid p card s e w.2.result w.3.result w.2.ensures w.3.ensures) (w.7 ∙ w.5.ensures))
-    (⊎_elim
-    (λ w. card_down p byte card kind m.p m.pile w.0.keys2 w.4.left (w.5 ∙ down_laid p card s e w.2.result w.3.result w.2.ensures w.3.ensures) w.6)
-    (λ w. head_back p byte card kind m.p m.pile b.requires.0 b.requires.1 (rest b.requires.2 w.0.rest) w.2 (w.3 ∙ w.1.ensures))))
-    m.branch
+    elim m.branch [
+      in-3 w ↦ to_stack p byte card kind m.p m.pile w.in-3.is (w.p-is ∙ lifted_up p card s e w.unseen.result w.unseen.ensures) w.pile-is
+    | in-1+then-byte-ne0 w ↦
+      head_down p byte card kind m.p m.pile b.requires.0 b.requires.1 w.in-1.is w.if-byte-ne0.true
+      (w.p-is ∙ down_laid p card s e w.one_less.result w.seen.result w.one_less.ensures w.seen.ensures) (w.pile-is ∙ w.bare_pile-pile.ensures)
+    | in-1+else-byte-ne0 w ↦
+      card_down p byte card kind m.p m.pile w.in-1.is w.if-byte-ne0.false (w.p-is ∙ down_laid p card s e w.one_less.result w.seen.result w.one_less.ensures w.seen.ensures) w.pile-is
+    | in_default w ↦ head_back p byte card kind m.p m.pile b.requires.0 b.requires.1 (rest b.requires.2 w.in_default.in_default-own.rest) w.p-is (w.pile-is ∙ w.bare_pile-pile-in_default.ensures)
+    ]
 
 -- the count of the pile that is turned back
 fits : (c : tie.Then-pile-lt-N_PILES) → get_or c.match-kind.p.counts c.match-kind.pile 0 ≤ c.match-kind.pile + 1
@@ -66,7 +66,7 @@ fits c =
 place : (c : tie.After-pile_start) → let m = (under c).match-kind in c.pile_start.result + get_or m.p.counts m.pile 0 ≤ 52
 place c =
     let t = under c in
-    in_deal t.match-kind.pile (get_or t.match-kind.p.counts t.match-kind.pile 0) c.pile_start.result t.if-pile-lt-N_PILES.taken (fits t) c.pile_start.ensures
+    in_deal t.match-kind.pile (get_or t.match-kind.p.counts t.match-kind.pile 0) c.pile_start.result t.if-pile-lt-N_PILES.true (fits t) c.pile_start.ensures
 
 -- ---- what the code asks
 
@@ -145,13 +145,13 @@ returns-then-n-gt0 c =
     let n = get_or q.counts m.pile 0 in
     let k : s.pile_start.result + n - 1 ≡ pile_start m.pile + (n - 1) = omega (arith, s.pile_start.ensures, s.if-n-gt0.true) in
     back_card q m.pile (n + 1) (get_or q.deal (s.pile_start.result + n - 1) 0) c.unseen-then-n-gt0.result refl s.if-n-gt0.true (ap (λ (x : ℕ). get_or q.deal x 0) k) c.unseen-then-n-gt0.ensures
-    ∙ (mid t.before).some t.if-pile-lt-N_PILES.taken
+    ∙ (mid t.before).some t.if-pile-lt-N_PILES.true
 
 returns-else-n-gt0 : tie.Need-returns-else-n-gt0
 returns-else-n-gt0 c =
     let t = c.before in
     let m = t.match-kind in
-    back_emptied m.p m.pile (get_or m.p.counts m.pile 0 + 1) refl c.if-n-gt0.false ∙ (mid t.before).some t.if-pile-lt-N_PILES.true
+    back_emptied m.p m.pile (get_or m.p.counts m.pile 0 + 1) refl c.if-n-gt0.false ∙ (mid t.before.before).some t.if-pile-lt-N_PILES.true
 
 returns-else-pile-lt-N_PILES : tie.Need-returns-else-pile-lt-N_PILES
 returns-else-pile-lt-N_PILES c = (mid c.before).none c.if-pile-lt-N_PILES.false

@@ -4,10 +4,10 @@ use Rattle.play.proofs.unmake.undo_move.Statement.{statement}
 use Rattle.play.proofs.unmake.undo_move.Tie as tie
 
 to_deck-requires : tie.Need-to_deck-requires
-to_deck-requires c κs = (c.requires.0, c.requires.1, c.in_default.keys1)
+to_deck-requires c κs = (c.requires.0, c.requires.1, c.in-0.is)
 
 to_table-requires : tie.Need-to_table-requires
-to_table-requires c κs = (c.requires.0, c.requires.1, c.in_default.rest.1)
+to_table-requires c κs = (c.requires.0, c.requires.1, c.in_default.in_default-own.rest.1)
 
 returns-in-0 : tie.Need-returns-in-0
 returns-in-0 c = c.to_deck.ensures
