@@ -14,6 +14,8 @@ use replay_bytes::{Answer, record, report};
 use replay_rows::table::Table;
 use replay_rows::{set, table};
 use rules::Position;
+use std::io;
+use std::io::Read;
 
 // The header's first bytes: a letter and the version.
 const LETTER: u8 = b'R';
@@ -51,13 +53,13 @@ fn answered(t: Table, row: [u8; 64]) -> Table {
 }
 
 // So many records, or as many as there are.
-fn replay(records: u64) -> Tally {
+fn replay<R: Read>(input: &mut R, records: u64) -> io::Result<Tally> {
     let mut t = table::new();
     let mut tally = report::none();
     let mut left = records;
     while left > 0 {
         left -= 1;
-        let r = record::read();
+        let r = record::read(input)?;
         if !r.whole {
             break;
         }
@@ -65,32 +67,31 @@ fn replay(records: u64) -> Tally {
         t = answered(t, row);
         tally = tally.counted(row, t.answer);
     }
-    tally
+    Ok(tally)
 }
 
 // As many records as the header says, and no more.
-fn all(records: u64) {
-    let tally = replay(records);
-    report::print(tally);
+fn all<R: Read>(rt: &impl Print, input: &mut R, records: u64) -> io::Result<()> {
+    let tally = replay(input, records)?;
+    report::print(rt, tally)?;
     if tally.records != records {
-        report::say(b"cut short\n");
-        return;
+        return report::say(rt, b"cut short\n");
     }
-    if !record::at_end() {
-        report::say(b"more than the header says\n");
+    if !record::at_end(input)? {
+        return report::say(rt, b"more than the header says\n");
     }
+    Ok(())
 }
 
-fn main() {
-    let r = record::read();
+fn main(rt: HostRuntime) -> io::Result<()> {
+    let mut input = rt.stdin();
+    let r = record::read(&mut input)?;
     let head = r.bytes;
     if !r.whole || byte(head, 0) != LETTER {
-        report::say(b"no header\n");
-        return;
+        return report::say(&rt, b"no header\n");
     }
     if byte(head, 1) != VERSION {
-        report::say(b"another version\n");
-        return;
+        return report::say(&rt, b"another version\n");
     }
-    all(record::long(head, 4));
+    all(&rt, &mut input, record::long(head, 4))
 }

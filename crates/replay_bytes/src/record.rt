@@ -1,8 +1,11 @@
 // A record's bytes; numbers of 2 and 8 bytes are little-endian. Past the end a byte reads 0 and a write does nothing,
 // so that no reader has to know a length.
-ghost use Rattle.std.specs.Prelude.{◌<◌};
+ghost use Rattle.std.specs.Prelude.{◌≡◌, ◌<◌, false, true, length, take, IfSome, IfOk};
+ghost use Rattle.std.specs.Io.{ReadsAtMost};
+ghost use Rattle.std.specs.Io.KnownBytes.{Consumes, IsAtEnd};
 
-use libc::STDIN_FILENO;
+use std::io;
+use std::io::Read;
 
 pub const SIZE: usize = 64;
 
@@ -17,19 +20,45 @@ pub struct Row {
     pub whole: bool,
 }
 
-pub fn read() -> Row {
+// Reads until buf is full or the input ends, and returns how many bytes it put at the start of buf.
+fn read_full<R: Read>(input: &mut R, buf: &mut [u8]) -> io::Result<usize>
+    ensures in_bounds { ReadsAtMost result buf.new }
+    ensures bytes { IfOk result (λ n. Consumes (R.remaining input.old) (R.remaining input.new) (take n buf.new)) }
+    ensures end { IfOk result (λ n. n < length buf.new → IsAtEnd (R.remaining input.new)) }
+{
+    let mut done: usize = 0;
+    while done < buf.len() {
+        let n = input.read(&mut buf[done..])?;
+        if n == 0 {
+            break;
+        }
+        done += n;
+    }
+    Ok(done)
+}
+
+// A whole record is the next bytes of the input. It is not whole where there were not so many, and then none is left.
+pub fn read<R: Read>(input: &mut R) -> io::Result<Row>
+    ensures bytes { IfOk result (λ r. r.whole ≡ true → Consumes (R.remaining input.old) (R.remaining input.new) r.bytes) }
+    ensures short { IfOk result (λ r. r.whole ≡ false → IfSome (R.remaining input.old) (λ xs. length xs < 64)) }
+    ensures end { IfOk result (λ r. r.whole ≡ false → IsAtEnd (R.remaining input.new)) }
+{
     let mut bytes = [0u8; SIZE];
-    let n = io::read_full(STDIN_FILENO, &mut bytes);
-    Row {
+    let n = read_full(input, &mut bytes)?;
+    Ok(Row {
         bytes: bytes,
         whole: n == SIZE,
-    }
+    })
 }
 
 // Whether nothing is left to read.
-pub fn at_end() -> bool {
+pub fn at_end<R: Read>(input: &mut R) -> io::Result<bool>
+    ensures end { IfOk result (λ e. e ≡ true → IsAtEnd (R.remaining input.old)) }
+    ensures more { IfOk result (λ e. e ≡ false → IfSome (R.remaining input.old) (λ xs. 0 < length xs)) }
+{
     let mut r = [0u8; 1];
-    io::read_full(STDIN_FILENO, &mut r) == 0
+    let n = read_full(input, &mut r)?;
+    Ok(n == 0)
 }
 
 // A byte of a slice.

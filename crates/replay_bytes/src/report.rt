@@ -3,7 +3,7 @@ ghost use Rattle.std.specs.Prelude.{◌<◌};
 
 use crate::Answer;
 use crate::record::{SIZE, byte, difference, part};
-use libc::STDOUT_FILENO;
+use std::io;
 
 // The tags are 1 to 14.
 const N_TAGS: usize = 15;
@@ -79,12 +79,12 @@ impl Tally {
     }
 }
 
-pub fn say(text: &[u8]) {
-    io::write_all(STDOUT_FILENO, text);
+pub fn say(rt: &impl Print, text: &[u8]) -> io::Result<()> {
+    rt.write_all(text)
 }
 
-fn number(n: u64) {
-    io::print_decimal(STDOUT_FILENO, n);
+fn number(rt: &impl Print, n: u64) -> io::Result<()> {
+    rt.print(n)
 }
 
 // Where the name of a tag starts among the names, and how long it is. The first is the name of a number that is no tag.
@@ -98,60 +98,63 @@ fn known(tag: usize) -> usize
     if tag < N_TAGS { tag } else { 0 }
 }
 
-fn name(tag: usize) {
+fn name(rt: &impl Print, tag: usize) -> io::Result<()> {
     let i = known(tag);
-    say(part(
-        b"no tagdealresumemoveundomaskslistingpilesviewtestsfindsoffsetsladdercursorsset",
-        NAME_AT[i],
-        NAME_LENGTH[i],
-    ));
+    say(
+        rt,
+        part(
+            b"no tagdealresumemoveundomaskslistingpilesviewtestsfindsoffsetsladdercursorsset",
+            NAME_AT[i],
+            NAME_LENGTH[i],
+        ),
+    )
 }
 
 // A number after a text.
-fn told(text: &[u8], n: u64) {
-    say(text);
-    number(n);
+fn told(rt: &impl Print, text: &[u8], n: u64) -> io::Result<()> {
+    say(rt, text)?;
+    number(rt, n)
 }
 
 // The end of a line: how many differ.
-fn differ(text: &[u8], n: u64) {
-    told(text, n);
-    say(b" differ\n");
+fn differ(rt: &impl Print, text: &[u8], n: u64) -> io::Result<()> {
+    told(rt, text, n)?;
+    say(rt, b" differ\n")
 }
 
-fn line(tag: usize, count: u64, wrong: u64) {
-    name(tag);
-    told(b" ", count);
+fn line(rt: &impl Print, tag: usize, count: u64, wrong: u64) -> io::Result<()> {
+    name(rt, tag)?;
+    told(rt, b" ", count)?;
     if wrong == 0 {
-        say(b" ok\n");
-        return;
+        return say(rt, b" ok\n");
     }
-    differ(b", ", wrong);
+    differ(rt, b", ", wrong)
 }
 
-fn lines(of_tag: [u64; 15], wrong_of_tag: [u64; 15]) {
+fn lines(rt: &impl Print, of_tag: [u64; 15], wrong_of_tag: [u64; 15]) -> io::Result<()> {
     let mut tag: usize = 1;
     while tag < N_TAGS {
-        line(tag, of_tag[tag], wrong_of_tag[tag]);
+        line(rt, tag, of_tag[tag], wrong_of_tag[tag])?;
         tag += 1;
     }
+    Ok(())
 }
 
-fn first(record: u64, tag: u8, at: usize) {
-    told(b"first: record ", record);
-    say(b", ");
-    name(tag as usize);
-    told(b", byte ", at as u64);
-    say(b"\n");
+fn first(rt: &impl Print, record: u64, tag: u8, at: usize) -> io::Result<()> {
+    told(rt, b"first: record ", record)?;
+    say(rt, b", ")?;
+    name(rt, tag as usize)?;
+    told(rt, b", byte ", at as u64)?;
+    say(rt, b"\n")
 }
 
-pub fn print(t: Tally) {
+pub fn print(rt: &impl Print, t: Tally) -> io::Result<()> {
     let counts = t.of_tag;
     let wrong = t.wrong_of_tag;
-    lines(counts, wrong);
+    lines(rt, counts, wrong)?;
     if t.wrong != 0 {
-        first(t.first, t.first_tag, t.first_byte);
+        first(rt, t.first, t.first_tag, t.first_byte)?;
     }
-    number(t.records);
-    differ(b" records, ", t.wrong);
+    number(rt, t.records)?;
+    differ(rt, b" records, ", t.wrong)
 }

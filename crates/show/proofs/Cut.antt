@@ -2,12 +2,16 @@
 -- Assumes nothing.
 use mathlib.Core.Bool.{Bool, true, false, not}
 use mathlib.Core.Path.{◌≡◌, refl, sym, ap, ◌∙◌}
-use mathlib.Core.List.{List, [], ◌∷◌}
+use mathlib.Core.List.{List, [], ◌∷◌, ◌++◌}
 use Prim.Native.Nat.{ℕ, zero, suc, ◌≤◌, ◌<◌}
 use native.Mathlib.Omega.{arith}
 use lib.Dec.{ltb}
 use lib.ListN.{length, take}
-use lib.Seq.{take_all, length-take-le}
+use lib.Seq.{take_all, length-take-le, take-append-le}
+use Rattle.std.specs.Prelude.{Option, None, Some}
+use Rattle.std.specs.Io.KnownBytes.{Consumes, IsAtEnd}
+use Rattle.std.proofs.Common.{le_refl}
+use Rattle.std.proofs.lemmas.List.{append-nil}
 use borrow.Author.Tests.{ne_eqb, ltb-true, ltb-false}
 use Rattle.rules.specs.Code.{fresh}
 use Rattle.rules.specs.Proper.{step_right}
@@ -41,3 +45,17 @@ pub cut : (n : ℕ) (input : List ℕ) → 54 ≤ n → show_text (take n input)
 cut zero input h = absurd (omega arith)
 cut (suc n) [] h = refl
 cut (suc n) (step ∷ d) h = cut_deal n step d (ltb n (length d)) refl (omega arith)
+
+-- what is read, to the input's end or at least the buffer's length, is printed for as the whole input
+pub read : (bs xs : List ℕ) (after : Option (List ℕ)) → Consumes (Some xs) after bs → (length bs < 4096 → IsAtEnd after) → show_text bs ≡ show_text xs
+read bs xs None e h = absurd e
+read bs xs (Some ys) e h = by_cases (ltb (length bs) 4096) refl
+  where
+    front : take (length bs) xs ≡ bs
+    front = ap (take (length bs)) e ∙ take-append-le (length bs) bs ys (le_refl (length bs)) ∙ take_all (length bs) bs (le_refl (length bs))
+
+    by_cases : (b : Bool) → ltb (length bs) 4096 ≡ b → show_text bs ≡ show_text xs
+    by_cases true t = ap show_text (sym (e ∙ ap (λ (r : List ℕ). bs ++ r) (h (ltb-true (length bs) 4096 t)) ∙ append-nil bs))
+    by_cases false t =
+        let many : 4096 ≤ length bs = ltb-false (length bs) 4096 t in
+        sym (ap show_text front) ∙ cut (length bs) xs (omega arith)

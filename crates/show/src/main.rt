@@ -1,14 +1,20 @@
 // The program `show`: reads one byte of step and then the deal; prints the code and the five masks, or `refused N`.
-// `text` is what it prints, on slices: no contract can speak of what is read or written.
+// `text` is what it prints, on slices, and `run` reads and writes it. No contract can speak of what the system gives or takes.
 #![tactic(auto)]
 
-ghost use Rattle.std.specs.Prelude.{◌≡◌, ◌++◌, ◌+◌, ◌<◌, ◌≤◌, T, length, drop};
+ghost use Rattle.std.specs.Prelude.{◌≡◌, ◌++◌, ◌+◌, ◌<◌, ◌≤◌, T, length, take, drop, IfSome, IfOk, OnOk};
+ghost use Rattle.std.specs.Io.{ReadsAtMost};
+ghost use Rattle.std.specs.Io.KnownBytes.{Appends, Consumes, IsAtEnd};
 ghost use Rattle.std.proofs.lemmas.List.Edits.{sets};
 ghost use Rattle.rules.specs.Proper.{proper};
-ghost use Rattle.rules.specs.Show.{digit as Show·digit, hex_line, masks_text, shown as Show·shown, refused_line, show_text};
+ghost use Rattle.rules.specs.Show.{digit as digit_of, hex_line, masks_text, shown as shown_text, refused_line, show_text};
 
-use libc::{STDIN_FILENO, STDOUT_FILENO};
 use rules::{Masks, Position};
+use std::io;
+use std::io::{Read, Write};
+
+// More than any deal that is not refused.
+const N_INPUT: usize = 4096;
 
 // The hex digits of a line.
 const N_DIGITS: usize = 16;
@@ -21,7 +27,7 @@ const LINE_END: u8 = b'\n';
 // A lower-case hex digit.
 fn digit(n: u64) -> u8
     requires { n < 16 }
-    ensures { result ≡ Show·digit n }
+    ensures { result ≡ digit_of n }
 {
     if n < 10 {
         return 48 + n as u8;
@@ -60,7 +66,7 @@ fn mask_lines(m: Masks, out: &mut [u8], at: usize) -> usize
 // The code and the masks of a position.
 fn shown(p: Position, out: &mut [u8]) -> usize
     requires { T (proper p) × (102 ≤ length out.old) }
-    ensures { (result ≡ 102) × (out.new ≡ sets out.old 0 (Show·shown p)) }
+    ensures { (result ≡ 102) × (out.new ≡ sets out.old 0 (shown_text p)) }
 {
     let at = hex_line(engine::save(p).code, out, 0);
     mask_lines(engine::masks(p, false).masks, out, at)
@@ -106,11 +112,35 @@ fn text(input: &[u8], out: &mut [u8]) -> usize
     shown(s.position, out)
 }
 
+// Reads until buf is full or the input ends, and returns how many bytes it put at the start of buf.
+fn read_full<R: Read>(input: &mut R, buf: &mut [u8]) -> io::Result<usize>
+    ensures in_bounds { ReadsAtMost result buf.new }
+    ensures bytes { IfOk result (λ n. Consumes (R.remaining input.old) (R.remaining input.new) (take n buf.new)) }
+    ensures end { IfOk result (λ n. n < length buf.new → IsAtEnd (R.remaining input.new)) }
+{
+    let mut done: usize = 0;
+    while done < buf.len() {
+        let n = input.read(&mut buf[done..])?;
+        if n == 0 {
+            break;
+        }
+        done += n;
+    }
+    Ok(done)
+}
+
+// Reads the input, and writes what is to be printed for all of it.
 // What is past the buffer's bytes makes no difference: so long a deal is refused by its step or its length.
-fn main() {
-    let mut buf = io::buffer();
-    let n = io::read_full(STDIN_FILENO, &mut buf);
+fn run<R: Read, W: Write>(input: &mut R, output: &mut W) -> io::Result<()>
+    ensures { OnOk result (IfSome (R.remaining input.old) (λ xs. Appends (W.contents output.old) (W.contents output.new) (show_text xs))) }
+{
+    let mut buf = [0u8; N_INPUT];
+    let n = read_full(input, &mut buf)?;
     let mut out = [0u8; N_TEXT];
     let k = text(&buf[..n], &mut out);
-    io::write_all(STDOUT_FILENO, &out[..k]);
+    output.write_all(&out[..k])
+}
+
+fn main(rt: HostRuntime) -> io::Result<()> {
+    run(&mut rt.stdin(), &mut rt.stdout())
 }

@@ -24,113 +24,113 @@ use Rattle.engine_history.proofs.do_move.Tie as tie
 
 -- ---- the way back from each test to the one before it, and to what was given
 
-abbrev begun : tie.Else1 → tie.Start
+abbrev begun : tie.Else-not-is_proper → tie.Start
 begun c = c.before.before.before
 
-abbrev counted : tie.Else4 → tie.Else2
+abbrev counted : tie.Else-card-gt-LAST_CARD → tie.Else-history-count
 counted c = c.before.before
 
-abbrev tried : tie.Else5 → tie.Else4
+abbrev tried : tie.Else-not-is_valid_move → tie.Else-card-gt-LAST_CARD
 tried c = c.before.before
 
-abbrev moved : tie.After-do-move → tie.Else5
+abbrev moved : tie.After-do_move-made → tie.Else-not-is_valid_move
 moved c = c.before.before
 
-abbrev of-2 : tie.Else2 → tie.Start
+abbrev of-2 : tie.Else-history-count → tie.Start
 of-2 c = begun c.before
 
-abbrev of-4 : tie.Else4 → tie.Start
+abbrev of-4 : tie.Else-card-gt-LAST_CARD → tie.Start
 of-4 c = of-2 (counted c)
 
-abbrev of-5 : tie.Else5 → tie.Start
+abbrev of-5 : tie.Else-not-is_valid_move → tie.Start
 of-5 c = of-4 (tried c)
 
 -- ---- the tests that are passed
 
-right : (c : tie.Else1) → proper (begun c).args.p ≡ true
-right c = is_right (begun c).args.p c.before.is-proper.ensures c.if1.false
+right : (c : tie.Else-not-is_proper) → proper (begun c).args.p ≡ true
+right c = is_right (begun c).args.p c.is_proper.ensures c.if-not-is_proper.false
 
-within : (c : tie.Else2) → ltb (length (of-2 c).args.history.now) (of-2 c).args.count ≡ false
-within c = le-ltb _ _ c.if2.false
+within : (c : tie.Else-history-count) → ltb (length (of-2 c).args.history.now) (of-2 c).args.count ≡ false
+within c = le-ltb _ _ c.if-history-count.false
 
-is_move : (c : tie.Else4) → is_kind_and_card (of-4 c).args.kind (of-4 c).args.card ≡ true
+is_move : (c : tie.Else-card-gt-LAST_CARD) → is_kind_and_card (of-4 c).args.kind (of-4 c).args.card ≡ true
 unfolding is_kind_and_card
-is_move c = rw (le-leb _ _ c.before.if3.false, le-leb _ _ c.if4.false)
+is_move c = rw (le-leb _ _ c.if-kind-gt-LAST_KIND.false, le-leb _ _ c.if-card-gt-LAST_CARD.false)
 
-may : (c : tie.Else5) → legal (of-5 c).args.p (of-5 c).args.kind (of-5 c).args.card ≡ true
-may c = granted c.before.is-valid-move.ensures c.if5.false
+may : (c : tie.Else-not-is_valid_move) → legal (of-5 c).args.p (of-5 c).args.kind (of-5 c).args.card ≡ true
+may c = granted c.is_valid_move.ensures c.if-not-is_valid_move.false
 
 -- ---- each test in turn
 
-is-proper-requires : tie.Need-is-proper-requires
-is-proper-requires c κs = search rules
+is_proper-requires : tie.Need-is_proper-requires
+is_proper-requires c κs = search rules
 
-refused-move-requires : tie.Need-refused-move-requires
-refused-move-requires c κs = search rules
+refused_move-requires : tie.Need-refused_move-requires
+refused_move-requires c κs = search rules
 
-returns : tie.Need-returns
+returns-then-not-is_proper : tie.Need-returns-then-not-is_proper
 unfolding move_answer move_history move_refusal
-returns c =
+returns-then-not-is_proper c =
     let t = c.before in
-    rw (is_wrong t.before.before.before.args.p t.before.is-proper.ensures t.if1.true) (c.refused-move.ensures, refl)
+    rw (is_wrong t.args.p t.is_proper.ensures t.if-not-is_proper.true) (c.refused_move.ensures, refl)
 
-refused-move-requires-2 : tie.Need-refused-move-requires-2
-refused-move-requires-2 c κs = search rules
+refused_move-requires-then-history-count : tie.Need-refused_move-requires-then-history-count
+refused_move-requires-then-history-count c κs = search rules
 
-returns-2 : tie.Need-returns-2
+returns-then-history-count : tie.Need-returns-then-history-count
 unfolding move_answer move_history move_refusal
-returns-2 c =
+returns-then-history-count c =
     let t = c.before in
-    rw (right t.before, lt-ltb _ _ t.if2.true) (c.refused-move2.ensures, refl)
+    rw (right t.before, lt-ltb _ _ t.if-history-count.true) (c.refused_move-then-history-count.ensures, refl)
 
-refused-move-requires-3 : tie.Need-refused-move-requires-3
-refused-move-requires-3 c κs = search rules
+refused_move-requires-then-kind-gt-LAST_KIND : tie.Need-refused_move-requires-then-kind-gt-LAST_KIND
+refused_move-requires-then-kind-gt-LAST_KIND c κs = search rules
 
-returns-3 : tie.Need-returns-3
+returns-then-kind-gt-LAST_KIND : tie.Need-returns-then-kind-gt-LAST_KIND
 unfolding move_answer move_history move_refusal is_kind_and_card
-returns-3 c =
-    let e = c.before.before in
-    rw (right e.before, within e, lt-leb _ 4 c.before.if3.true) (c.refused-move3.ensures, refl)
+returns-then-kind-gt-LAST_KIND c =
+    let e = c.before in
+    rw (right e.before.before, within e.before, lt-leb _ 4 c.if-kind-gt-LAST_KIND.true) (c.refused_move-then-kind-gt-LAST_KIND.ensures, refl)
 
-refused-move-requires-4 : tie.Need-refused-move-requires-4
-refused-move-requires-4 c κs = search rules
+refused_move-requires-then-card-gt-LAST_CARD : tie.Need-refused_move-requires-then-card-gt-LAST_CARD
+refused_move-requires-then-card-gt-LAST_CARD c κs = search rules
 
-returns-4 : tie.Need-returns-4
+returns-then-card-gt-LAST_CARD : tie.Need-returns-then-card-gt-LAST_CARD
 unfolding move_answer move_history move_refusal is_kind_and_card
-returns-4 c =
-    let k = c.before.before in
+returns-then-card-gt-LAST_CARD c =
+    let k = c.before in
     let e = k.before in
-    rw (right e.before, within e, le-leb _ _ k.if3.false, lt-leb _ 51 c.before.if4.true) (c.refused-move4.ensures, refl)
+    rw (right e.before.before, within e.before, le-leb _ _ k.if-kind-gt-LAST_KIND.false, lt-leb _ 51 c.if-card-gt-LAST_CARD.true) (c.refused_move-then-card-gt-LAST_CARD.ensures, refl)
 
-is-valid-move-requires : tie.Need-is-valid-move-requires
-is-valid-move-requires c κs = (true-T _ (right (counted c).before), omega arith, omega arith)
+is_valid_move-requires : tie.Need-is_valid_move-requires
+is_valid_move-requires c κs = (true-T _ (right (counted c).before), omega arith, omega arith)
 
-refused-move-requires-5 : tie.Need-refused-move-requires-5
-refused-move-requires-5 c κs = search rules
+refused_move-requires-then-not-is_valid_move : tie.Need-refused_move-requires-then-not-is_valid_move
+refused_move-requires-then-not-is_valid_move c κs = search rules
 
-returns-5 : tie.Need-returns-5
+returns-then-not-is_valid_move : tie.Need-returns-then-not-is_valid_move
 unfolding move_answer move_history move_refusal
-returns-5 c =
+returns-then-not-is_valid_move c =
     let t = c.before in
-    let d = t.before.before in
-    let e = counted d in
-    rw (right e.before, within e, is_move d, denied t.before.is-valid-move.ensures t.if5.true) (c.refused-move5.ensures, refl)
+    let d = t.before in
+    let e = counted d.before in
+    rw (right e.before, within e, is_move d.before, denied t.is_valid_move.ensures t.if-not-is_valid_move.true) (c.refused_move-then-not-is_valid_move.ensures, refl)
 
-refused-move-requires-6 : tie.Need-refused-move-requires-6
-refused-move-requires-6 c κs = search rules
+refused_move-requires-then-count-history : tie.Need-refused_move-requires-then-count-history
+refused_move-requires-then-count-history c κs = search rules
 
-returns-6 : tie.Need-returns-6
+returns-then-count-history : tie.Need-returns-then-count-history
 unfolding move_answer move_history move_refusal
-returns-6 c =
-    let l = c.before.before in
-    let e = counted (tried l) in
-    rw (right e.before, within e, is_move (tried l), may l, eq-eqb _ _ c.before.if6.true) (c.refused-move6.ensures, refl)
+returns-then-count-history c =
+    let l = c.before in
+    let e = counted (tried l.before) in
+    rw (right e.before, within e, is_move (tried l.before), may l.before, eq-eqb _ _ c.if-count-history.true) (c.refused_move-then-count-history.ensures, refl)
 
-add-next : tie.Need-overflow-add-next
-add-next c = search rules
+overflow_add-next : tie.Need-overflow_add-next
+overflow_add-next c = search rules
 
-do-move-requires : tie.Need-do-move-requires
-do-move-requires c κs =
+do_move-made-requires : tie.Need-do_move-made-requires
+do_move-made-requires c κs =
     let l = c.before in
     (true-T _ (right (counted (tried l)).before), true-T _ (may l))
 
@@ -139,49 +139,49 @@ unfolding made
 entry-requires c κs =
     let d = tried (moved c) in
     let a = (of-4 d).args in
-    (omega (arith, ap (λ (x : Made). x.byte) c.do-move.ensures, byte_fits a.p (right (counted d).before) a.kind a.card), omega (arith, d.before.if3.left), omega (arith, d.if4.left))
+    (omega (arith, ap (λ (x : Made). x.byte) c.do_move-made.ensures, byte_fits a.p (right (counted d).before) a.kind a.card), omega (arith, d.if-kind-gt-LAST_KIND.false), omega (arith, d.if-card-gt-LAST_CARD.false))
 
-mul-history : tie.Need-overflow-mul-history
-mul-history c = search rules
+offset_bounds-history-count : tie.Need-offset_bounds-history-count
+offset_bounds-history-count c = search rules
 
-slice-write-history : tie.Need-slice-write-history
-slice-write-history c = search rules
+bounds-history-count : tie.Need-bounds-history-count
+bounds-history-count c = search rules
 
-same_length : tie.Need-same-length
-same_length c = search rules
+shape_of-history : tie.Need-shape_of-history
+shape_of-history c = search rules
 
-returns-7 : tie.Need-returns-7
+returns : tie.Need-returns
 unfolding move_answer move_history move_refusal made
-returns-7 c =
-    let m = c.before.before in
-    let l = moved m in
+returns c =
+    let m = c.before in
+    let l = moved m.before in
     let e = counted (tried l) in
     let a = (of-5 l).args in
-    rw (right e.before, within e, is_move (tried l), may l, ne_eqb _ _ m.before.if6.false)
-    (ap {B = Moved} (λ (x : Made). record { refusal = 0; position = x.position; count = a.count + 1; byte = x.byte; turned = x.turned }) m.do-move.ensures, ap (set a.history.now a.count) (c.before.entry.ensures ∙ ap (λ (x : Made). entry x.byte a.kind a.card) m.do-move.ensures))
+    rw (right e.before, within e, is_move (tried l), may l, ne_eqb _ _ m.if-count-history.false)
+    (ap {B = Moved} (λ (x : Made). record { refusal = 0; position = x.position; count = a.count + 1; byte = x.byte; turned = x.turned }) m.do_move-made.ensures, ap (set a.history.now a.count) (c.entry.ensures ∙ ap (λ (x : Made). entry x.byte a.kind a.card) m.do_move-made.ensures))
 
-pub do-move-spec : {M : Type 1} → statement M
-do-move-spec =
+pub do_move_spec : {M : Type 1} → statement M
+do_move_spec =
     tie.close
     (tie.spec
-    is-proper-requires
-    refused-move-requires
-    returns
-    refused-move-requires-2
-    returns-2
-    refused-move-requires-3
-    returns-3
-    refused-move-requires-4
-    returns-4
-    is-valid-move-requires
-    refused-move-requires-5
-    returns-5
-    refused-move-requires-6
-    returns-6
-    add-next
-    do-move-requires
+    is_proper-requires
+    refused_move-requires
+    returns-then-not-is_proper
+    refused_move-requires-then-history-count
+    returns-then-history-count
+    refused_move-requires-then-kind-gt-LAST_KIND
+    returns-then-kind-gt-LAST_KIND
+    refused_move-requires-then-card-gt-LAST_CARD
+    returns-then-card-gt-LAST_CARD
+    is_valid_move-requires
+    refused_move-requires-then-not-is_valid_move
+    returns-then-not-is_valid_move
+    refused_move-requires-then-count-history
+    returns-then-count-history
+    overflow_add-next
+    do_move-made-requires
     entry-requires
-    mul-history
-    slice-write-history
-    same_length
-    returns-7)
+    offset_bounds-history-count
+    bounds-history-count
+    shape_of-history
+    returns)

@@ -1,5 +1,6 @@
 -- `engine_history::undo_move` meets its contract.
 -- Assumes nothing.
+use borrow.Author.Tests.{not-true, not-false}
 use borrow.Author.Rules.{rules}
 use borrow.Author.Tests.{le-ltb, lt-ltb, eq-eqb, ne_eqb}
 use mathlib.Core.Bool.{true, false}
@@ -22,118 +23,118 @@ use Rattle.engine_history.proofs.undo_move.Tie as tie
 
 -- ---- the way back from each test to the one before it, and to what was given
 
-abbrev begun : tie.Else1 → tie.Start
+abbrev begun : tie.Else-not-is_proper → tie.Start
 begun c = c.before.before.before
 
-abbrev gone : tie.After-undo → tie.Else3
+abbrev gone : tie.After-undo-back → tie.Else-count-eq0
 gone c = c.before.before
 
-abbrev of-2 : tie.Else2 → tie.Start
+abbrev of-2 : tie.Else-history-count → tie.Start
 of-2 c = begun c.before
 
-abbrev of-undo : tie.After-undo → tie.Start
+abbrev of-undo : tie.After-undo-back → tie.Start
 of-undo c = of-2 (gone c).before
 
 -- ---- what the tests say
 
-right : (c : tie.Else1) → proper (begun c).args.p ≡ true
-right c = is_right (begun c).args.p c.before.is-proper.ensures c.if1.false
+right : (c : tie.Else-not-is_proper) → proper (begun c).args.p ≡ true
+right c = is_right (begun c).args.p c.is_proper.ensures c.if-not-is_proper.false
 
-within : (c : tie.Else2) → ltb (length (of-2 c).args.history.now) (of-2 c).args.count ≡ false
-within c = le-ltb _ _ c.if2.false
+within : (c : tie.Else-history-count) → ltb (length (of-2 c).args.history.now) (of-2 c).args.count ≡ false
+within c = le-ltb _ _ c.if-history-count.false
 
 -- what going back answered
-asked : (c : tie.After-undo) → c.undo.result.possible ≡ undoable (of-undo c).args.p (last_entry (of-undo c).args.history.now (of-undo c).args.count)
+asked : (c : tie.After-undo-back) → c.undo-back.result.possible ≡ undoable (of-undo c).args.p (last_entry (of-undo c).args.history.now (of-undo c).args.count)
 unfolding last_entry
-asked c = ap (λ (x : Back). x.possible) c.undo.ensures ∙ possible_is (of-undo c).args.p _
+asked c = ap (λ (x : Back). x.possible) c.undo-back.ensures ∙ possible_is (of-undo c).args.p _
 
 -- ---- each test in turn
 
-is-proper-requires : tie.Need-is-proper-requires
-is-proper-requires c κs = search rules
+is_proper-requires : tie.Need-is_proper-requires
+is_proper-requires c κs = search rules
 
-refused-undo-requires : tie.Need-refused-undo-requires
-refused-undo-requires c κs = search rules
+refused_undo-requires : tie.Need-refused_undo-requires
+refused_undo-requires c κs = search rules
+
+returns-then-not-is_proper : tie.Need-returns-then-not-is_proper
+unfolding undo_answer undo_refusal
+returns-then-not-is_proper c =
+    let t = c.before in
+    rw (is_wrong t.args.p t.is_proper.ensures t.if-not-is_proper.true) c.refused_undo.ensures
+
+refused_undo-requires-then-history-count : tie.Need-refused_undo-requires-then-history-count
+refused_undo-requires-then-history-count c κs = search rules
+
+returns-then-history-count : tie.Need-returns-then-history-count
+unfolding undo_answer undo_refusal
+returns-then-history-count c =
+    let t = c.before in
+    rw (right t.before, lt-ltb _ _ t.if-history-count.true) c.refused_undo-then-history-count.ensures
+
+refused_undo-requires-then-count-eq0 : tie.Need-refused_undo-requires-then-count-eq0
+refused_undo-requires-then-count-eq0 c κs = search rules
+
+returns-then-count-eq0 : tie.Need-returns-then-count-eq0
+unfolding undo_answer undo_refusal
+returns-then-count-eq0 c =
+    let e = c.before in
+    rw (right e.before.before, within e.before, eq-eqb _ _ c.if-count-eq0.true) c.refused_undo-then-count-eq0.ensures
+
+overflow_sub-count : tie.Need-overflow_sub-count
+overflow_sub-count c = search rules
+
+offset_bounds-history-count : tie.Need-offset_bounds-history-count
+offset_bounds-history-count c = search rules
+
+bounds-history-count : tie.Need-bounds-history-count
+bounds-history-count c = search rules
+
+undo-back-requires : tie.Need-undo-back-requires
+undo-back-requires c κs = true-T _ (right c.before.before.before)
+
+refused_undo-requires-then-not-back : tie.Need-refused_undo-requires-then-not-back
+refused_undo-requires-then-not-back c κs = search rules
+
+returns-then-not-back : tie.Need-returns-then-not-back
+unfolding undo_answer undo_refusal
+returns-then-not-back c =
+    let t = c.before in
+    let u = t.before in
+    let z = gone u.before in
+    let e = z.before in
+    rw (right e.before, within e, ne_eqb _ _ z.if-count-eq0.false, denied (asked u.before) (not-true _ t.if-not-back.true)) c.refused_undo-then-not-back.ensures
+
+overflow_sub-result : tie.Need-overflow_sub-result
+overflow_sub-result c = search rules
 
 returns : tie.Need-returns
-unfolding undo_answer undo_refusal
+unfolding undo_answer undo_refusal last_entry
 returns c =
     let t = c.before in
-    rw (is_wrong t.before.before.before.args.p t.before.is-proper.ensures t.if1.true) c.refused-undo.ensures
-
-refused-undo-requires-2 : tie.Need-refused-undo-requires-2
-refused-undo-requires-2 c κs = search rules
-
-returns-2 : tie.Need-returns-2
-unfolding undo_answer undo_refusal
-returns-2 c =
-    let t = c.before in
-    rw (right t.before, lt-ltb _ _ t.if2.true) c.refused-undo2.ensures
-
-refused-undo-requires-3 : tie.Need-refused-undo-requires-3
-refused-undo-requires-3 c κs = search rules
-
-returns-3 : tie.Need-returns-3
-unfolding undo_answer undo_refusal
-returns-3 c =
-    let e = c.before.before in
-    rw (right e.before, within e, eq-eqb _ _ c.before.if3.true) c.refused-undo3.ensures
-
-sub-undo : tie.Need-overflow-sub-undo
-sub-undo c = search rules
-
-mul-undo : tie.Need-overflow-mul-undo
-mul-undo c = search rules
-
-shared-slice-read-undo : tie.Need-shared-slice-read-undo
-shared-slice-read-undo c = search rules
-
-undo-requires : tie.Need-undo-requires
-undo-requires c κs = true-T _ (right c.before.before.before)
-
-refused-undo-requires-4 : tie.Need-refused-undo-requires-4
-refused-undo-requires-4 c κs = search rules
-
-returns-4 : tie.Need-returns-4
-unfolding undo_answer undo_refusal
-returns-4 c =
-    let t = c.before in
-    let u = t.before.before in
-    let z = gone u in
-    let e = z.before in
-    rw (right e.before, within e, ne_eqb _ _ z.if3.left, denied (asked u) t.if4.true) c.refused-undo4.ensures
-
-sub-t8 : tie.Need-overflow-sub-t8
-sub-t8 c = search rules
-
-returns-5 : tie.Need-returns-5
-unfolding undo_answer undo_refusal last_entry
-returns-5 c =
-    let t = c.before in
-    let u = t.before.before in
-    let z = gone u in
+    let u = t.before in
+    let z = gone u.before in
     let e = z.before in
     let a = (of-2 e).args in
-    let h = granted (asked u) t.if4.false in
-    rw (right e.before, within e, ne_eqb _ _ z.if3.left, h)
-    (ap {B = Undone} (λ (x : Position). record { refusal = 0; position = x; count = a.count - 1 }) (ap (λ (x : Back). x.position) u.undo.ensures ∙ position_is a.p _ h))
+    let h = granted (asked u.before) (not-false _ t.if-not-back.false) in
+    rw (right e.before, within e, ne_eqb _ _ z.if-count-eq0.false, h)
+    (ap {B = Undone} (λ (x : Position). record { refusal = 0; position = x; count = a.count - 1 }) (ap (λ (x : Back). x.position) u.undo-back.ensures ∙ position_is a.p _ h))
 
-pub undo-move-spec : {M : Type 1} → statement M
-undo-move-spec =
+pub undo_move_spec : {M : Type 1} → statement M
+undo_move_spec =
     tie.close
     (tie.spec
-    is-proper-requires
-    refused-undo-requires
-    returns
-    refused-undo-requires-2
-    returns-2
-    refused-undo-requires-3
-    returns-3
-    sub-undo
-    mul-undo
-    shared-slice-read-undo
-    undo-requires
-    refused-undo-requires-4
-    returns-4
-    sub-t8
-    returns-5)
+    is_proper-requires
+    refused_undo-requires
+    returns-then-not-is_proper
+    refused_undo-requires-then-history-count
+    returns-then-history-count
+    refused_undo-requires-then-count-eq0
+    returns-then-count-eq0
+    overflow_sub-count
+    offset_bounds-history-count
+    bounds-history-count
+    undo-back-requires
+    refused_undo-requires-then-not-back
+    returns-then-not-back
+    overflow_sub-result
+    returns)

@@ -29,27 +29,32 @@ front asked p o x a e f =
 
 -- ---- the way back to the inner listing, and to what was given
 
-abbrev begun : tie.After-list-into → tie.Start
+abbrev begun : tie.After-list_into-n → tie.Start
 begun c = c.before.before.before
 
-abbrev listed : tie.After-out2 → tie.After-list-into
+abbrev listed : tie.After-out-2-1 → tie.After-list_into-n
 listed c = c.before.before.before
 
-list-into-requires : tie.Need-list-into-requires
-list-into-requires c κs = search rules
+list_into-n-requires : tie.Need-list_into-n-requires
+list_into-n-requires c κs = search rules
 
-slice-aggregate-result : tie.Need-slice-aggregate-result
-slice-aggregate-result c =
+slice_bounds-result-end : tie.Need-slice_bounds-result-end
+slice_bounds-result-end c =
     let s = begun (listed c) in
-    let l = (listed c).list-into in
-    let w = front _ s.args.p s.args.out.now l.last.1.1.0 l.result l.ensures.0 l.ensures.1 in
+    let l = (listed c).list_into-n in
+    let w = front _ s.args.p s.args.out.now l.new.out l.result l.ensures.0 l.ensures.1 in
     w.0 ∙ sym (ap length w.1)
 
 returns : tie.Need-returns
 returns c =
     let s = begun (listed c) in
-    let l = (listed c).list-into in
-    ((front s.args.pruned s.args.p s.args.out.now l.last.1.1.0 l.result l.ensures.0 l.ensures.1).1, refl)
+    let l = (listed c).list_into-n in
+    ((front s.args.pruned s.args.p s.args.out.now l.new.out l.result l.ensures.0 l.ensures.1).1, refl)
 
-pub list-spec : {M : Type 1} → statement M
-list-spec = tie.close (tie.spec list-into-requires slice-aggregate-result returns)
+pub list_spec : {M : Type 1} → statement M
+list_spec =
+    tie.close
+    (tie.spec
+    list_into-n-requires
+    slice_bounds-result-end
+    returns)

@@ -20,13 +20,13 @@ use Rattle.engine_lists.proofs.list_into.Tie as tie
 
 -- ---- the way back from each place to the one before it, and to what was given
 
-abbrev begun : tie.Else1 → tie.Start
+abbrev begun : tie.Else-not-is_proper → tie.Start
 begun c = c.before.before.before
 
-abbrev judged : tie.After-len → tie.Else1
+abbrev judged : tie.After-len → tie.Else-not-is_proper
 judged c = c.before.before
 
-abbrev roomy : tie.After-list-into → tie.Else2
+abbrev roomy : tie.After-list_into-n → tie.Else-out-len
 roomy c = c.before.before
 
 abbrev of-len : tie.After-len → tie.Start
@@ -34,75 +34,75 @@ of-len c = begun (judged c)
 
 -- ---- what is known there
 
-right : (c : tie.Else1) → proper (begun c).args.p ≡ true
-right c = is_right (begun c).args.p c.before.is-proper.ensures c.if1.false
+right : (c : tie.Else-not-is_proper) → proper (begun c).args.p ≡ true
+right c = is_right (begun c).args.p c.is_proper.ensures c.if-not-is_proper.false
 
-fair : (c : tie.Else1) → T (proper (begun c).args.p)
-fair c = is_proper_lem (begun c).args.p c.before.is-proper.ensures c.if1.false
+fair : (c : tie.Else-not-is_proper) → T (proper (begun c).args.p)
+fair c = is_proper_lem (begun c).args.p c.is_proper.ensures c.if-not-is_proper.false
 
 whole : (c : tie.Start) → Shape c.args.p
-whole c = shape c.args.p _ c.well-formed.0
+whole c = shape c.args.p _ c.well_formed.0
 
 counted : (c : tie.After-len) → length (listing (masks_for (of-len c).args.pruned (of-len c).args.p)) ≡ c.len.result
 counted c =
     let s = of-len c in
-    hint_count s.args.p (whole s) (fair (judged c)) s.args.pruned c.before.masks-for.ensures c.len.ensures
+    hint_count s.args.p (whole s) (fair (judged c)) s.args.pruned c.masks_for-m.ensures c.len.ensures
 
 -- ---- the needs
 
-is-proper-requires : tie.Need-is-proper-requires
-is-proper-requires c κs = search rules
+is_proper-requires : tie.Need-is_proper-requires
+is_proper-requires c κs = search rules
 
-returns : tie.Need-returns
+returns-then-not-is_proper : tie.Need-returns-then-not-is_proper
 unfolding listing_answer listing_refusal listing_into listing_front
-returns c = rw (is_wrong c.before.before.before.args.p c.before.is-proper.ensures c.if1.true) (refl, refl)
+returns-then-not-is_proper c = rw (is_wrong c.args.p c.is_proper.ensures c.if-not-is_proper.true) (refl, refl)
 
-masks-for-requires : tie.Need-masks-for-requires
-masks-for-requires c κs = fair c
+masks_for-m-requires : tie.Need-masks_for-m-requires
+masks_for-m-requires c κs = fair c
 
 len-requires : tie.Need-len-requires
 len-requires c κs = search rules
 
-cast-if2 : tie.Need-overflow-cast-if2
-cast-if2 c = search rules
+overflow_cast-len : tie.Need-overflow_cast-len
+overflow_cast-len c = search rules
 
-returns-2 : tie.Need-returns-2
+returns-then-out-len : tie.Need-returns-then-out-len
 unfolding listing_answer listing_refusal listing_into listing_front
-returns-2 c = rw (right (judged c.before), counted c.before, lt-ltb _ _ c.if2.true) (refl, refl)
+returns-then-out-len c = rw (right (judged c.before), counted c.before, lt-ltb _ _ c.if-out-len.true) (refl, refl)
 
-list-into-requires : tie.Need-list-into-requires
-list-into-requires c κs =
-    let n = c.before.before in
-    let s = of-len n in
-    hint_cards s.args.p (whole s) (fair (judged n)) s.args.pruned n.before.masks-for.ensures
+list_into-n-requires : tie.Need-list_into-n-requires
+list_into-n-requires c κs =
+    let n = c.before in
+    let s = of-len n.before in
+    hint_cards s.args.p (whole s) (fair (judged n.before)) s.args.pruned n.masks_for-m.ensures
 
-same_length : tie.Need-same-length
-same_length c = search rules
+shape_of-out : tie.Need-shape_of-out
+shape_of-out c = search rules
 
-returns-3 : tie.Need-returns-3
+returns : tie.Need-returns
 unfolding listing_answer listing_refusal listing_into listing_front listed_over
-returns-3 c =
-    let i = c.before.before in
-    let d = roomy i in
+returns c =
+    let i = c.before in
+    let d = roomy i.before in
     let n = d.before in
     let s = of-len n in
-    let l = i.list-into.ensures in
+    let l = i.list_into-n.ensures in
     let b : List ℕ = s.args.out.now in
-    let fits = hint_fits s.args.p (whole s) (fair (judged n)) s.args.pruned n.before.masks-for.ensures n.len.ensures d.if2.left in
-    let written : i.list-into.result ≡ n.len.result = l.0 ∙ ap length fits ∙ counted n in
-    rw (right (judged n), counted n, le-ltb _ _ d.if2.left)
+    let fits = hint_fits s.args.p (whole s) (fair (judged n)) s.args.pruned n.masks_for-m.ensures n.len.ensures d.if-out-len.false in
+    let written : i.list_into-n.result ≡ n.len.result = l.0 ∙ ap length fits ∙ counted n in
+    rw (right (judged n), counted n, le-ltb _ _ d.if-out-len.false)
     (λ k. record { refusal = 0; position = s.args.p; count = written k }, l.1 ∙ ap (λ (f : List ℕ). f ++ drop (length f) b) fits)
 
-pub list-into-spec : {M : Type 1} → statement M
-list-into-spec =
+pub list_into_spec : {M : Type 1} → statement M
+list_into_spec =
     tie.close
     (tie.spec
-    is-proper-requires
-    returns
-    masks-for-requires
+    is_proper-requires
+    returns-then-not-is_proper
+    masks_for-m-requires
     len-requires
-    cast-if2
-    returns-2
-    list-into-requires
-    same_length
-    returns-3)
+    overflow_cast-len
+    returns-then-out-len
+    list_into-n-requires
+    shape_of-out
+    returns)

@@ -10,28 +10,35 @@ use Rattle.engine_lists.proofs.masks.Statement.{statement}
 use Rattle.engine_lists.proofs.masks.Tie as tie
 
 -- the way back to what was given
-abbrev begun : tie.After-is-proper → tie.Start
+abbrev begun : tie.After-is_proper → tie.Start
 begun c = c.before.before
 
-no-masks-requires : tie.Need-no-masks-requires
-no-masks-requires c κs = search rules
+no_masks-none-requires : tie.Need-no_masks-none-requires
+no_masks-none-requires c κs = search rules
 
-is-proper-requires : tie.Need-is-proper-requires
-is-proper-requires c κs = search rules
+is_proper-requires : tie.Need-is_proper-requires
+is_proper-requires c κs = search rules
+
+returns-then-not-is_proper : tie.Need-returns-then-not-is_proper
+unfolding masks_answer improper
+returns-then-not-is_proper c = rw (is_wrong (begun c.before).args.p c.is_proper.ensures c.if-not-is_proper.true, c.no_masks-none.ensures)
+
+masks_for-found-requires : tie.Need-masks_for-found-requires
+masks_for-found-requires c κs = is_proper_lem (begun c.before).args.p c.is_proper.ensures c.if-not-is_proper.false
 
 returns : tie.Need-returns
 unfolding masks_answer improper
-returns c = rw (is_wrong (begun c.before).args.p c.before.is-proper.ensures c.if1.true, c.before.before.no-masks.ensures)
+returns c =
+    let j = c.before in
+    let p = (begun j.before).args.p in
+    rw (is_right p j.is_proper.ensures c.if-not-is_proper.false) (ap {B = Masked} (λ (m : Masks). record { refusal = 0; position = p; masks = m }) c.masks_for-found.ensures)
 
-masks-for-requires : tie.Need-masks-for-requires
-masks-for-requires c κs = is_proper_lem (begun c.before).args.p c.before.is-proper.ensures c.if1.false
-
-returns-2 : tie.Need-returns-2
-unfolding masks_answer improper
-returns-2 c =
-    let j = c.before.before in
-    let p = (begun j).args.p in
-    rw (is_right p j.is-proper.ensures c.before.if1.false) (ap {B = Masked} (λ (m : Masks). record { refusal = 0; position = p; masks = m }) c.masks-for.ensures)
-
-pub masks-spec : {M : Type 1} → statement M
-masks-spec = tie.close (tie.spec no-masks-requires is-proper-requires returns masks-for-requires returns-2)
+pub masks_spec : {M : Type 1} → statement M
+masks_spec =
+    tie.close
+    (tie.spec
+    no_masks-none-requires
+    is_proper-requires
+    returns-then-not-is_proper
+    masks_for-found-requires
+    returns)

@@ -15,51 +15,57 @@ use Rattle.engine_lists.proofs.test.Tie as tie
 
 -- ---- the way back from each test to what was given
 
-abbrev begun : tie.Else1 → tie.Start
+abbrev begun : tie.Else-not-is_proper → tie.Start
 begun c = c.before.before
 
-abbrev of-3 : tie.Else3 → tie.Start
+abbrev of-3 : tie.Else-card-gt-LAST_CARD → tie.Start
 of-3 c = begun c.before.before
 
 -- ---- the tests that are passed
 
-right : (c : tie.Else1) → proper (begun c).args.p ≡ true
-right c = is_right (begun c).args.p c.before.is-proper.ensures c.if1.false
+right : (c : tie.Else-not-is_proper) → proper (begun c).args.p ≡ true
+right c = is_right (begun c).args.p c.is_proper.ensures c.if-not-is_proper.false
 
-fair : (c : tie.Else1) → T (proper (begun c).args.p)
-fair c = is_proper_lem (begun c).args.p c.before.is-proper.ensures c.if1.false
+fair : (c : tie.Else-not-is_proper) → T (proper (begun c).args.p)
+fair c = is_proper_lem (begun c).args.p c.is_proper.ensures c.if-not-is_proper.false
 
-is_move : (c : tie.Else3) → is_kind_and_card (of-3 c).args.kind (of-3 c).args.card ≡ true
+is_move : (c : tie.Else-card-gt-LAST_CARD) → is_kind_and_card (of-3 c).args.kind (of-3 c).args.card ≡ true
 unfolding is_kind_and_card
-is_move c = rw (le-leb _ _ c.before.if2.false, le-leb _ _ c.if3.false)
+is_move c = rw (le-leb _ _ c.if-kind-gt-LAST_KIND.false, le-leb _ _ c.if-card-gt-LAST_CARD.false)
 
 -- ---- each test in turn
 
-is-proper-requires : tie.Need-is-proper-requires
-is-proper-requires c κs = search rules
+is_proper-requires : tie.Need-is_proper-requires
+is_proper-requires c κs = search rules
+
+returns-then-not-is_proper : tie.Need-returns-then-not-is_proper
+unfolding test_answer test_refusal told
+returns-then-not-is_proper c = rw (is_wrong c.args.p c.is_proper.ensures c.if-not-is_proper.true)
+
+returns-then-kind-gt-LAST_KIND : tie.Need-returns-then-kind-gt-LAST_KIND
+unfolding test_answer test_refusal told is_kind_and_card
+returns-then-kind-gt-LAST_KIND c = rw (right c.before, lt-leb _ 4 c.if-kind-gt-LAST_KIND.true)
+
+returns-then-card-gt-LAST_CARD : tie.Need-returns-then-card-gt-LAST_CARD
+unfolding test_answer test_refusal told is_kind_and_card
+returns-then-card-gt-LAST_CARD c = rw (right c.before.before, le-leb _ _ c.if-kind-gt-LAST_KIND.false, lt-leb _ 51 c.if-card-gt-LAST_CARD.true)
+
+is_valid_move-requires : tie.Need-is_valid_move-requires
+is_valid_move-requires c κs = (fair c.before.before, omega arith, omega arith)
 
 returns : tie.Need-returns
 unfolding test_answer test_refusal told
-returns c = rw (is_wrong c.before.before.args.p c.before.is-proper.ensures c.if1.true)
-
-returns-2 : tie.Need-returns-2
-unfolding test_answer test_refusal told is_kind_and_card
-returns-2 c = rw (right c.before, lt-leb _ 4 c.if2.true)
-
-returns-3 : tie.Need-returns-3
-unfolding test_answer test_refusal told is_kind_and_card
-returns-3 c = rw (right c.before.before, le-leb _ _ c.before.if2.false, lt-leb _ 51 c.if3.true)
-
-is-valid-move-requires : tie.Need-is-valid-move-requires
-is-valid-move-requires c κs = (fair c.before.before, omega arith, omega arith)
-
-returns-4 : tie.Need-returns-4
-unfolding test_answer test_refusal told
-returns-4 c =
+returns c =
     let d = c.before in
-    rw (right d.before.before, is_move d, c.is-valid-move.ensures)
+    rw (right d.before.before, is_move d, c.is_valid_move.ensures)
 
-pub test-spec : {M : Type 1} → statement M
-test-spec =
+pub test_spec : {M : Type 1} → statement M
+test_spec =
     tie.close
-    (tie.spec is-proper-requires returns returns-2 returns-3 is-valid-move-requires returns-4)
+    (tie.spec
+    is_proper-requires
+    returns-then-not-is_proper
+    returns-then-kind-gt-LAST_KIND
+    returns-then-card-gt-LAST_CARD
+    is_valid_move-requires
+    returns)
