@@ -42,43 +42,37 @@ fn numbers(turned: TurnedUp) -> TurnedNumbers
     }
 }
 
-#[unsafe(no_mangle)]
-pub extern "C" fn gravyhelm_deal(step: u8, cards: &[u8]) -> Started
+pub fn gravyhelm_deal(step: u8, cards: &[u8]) -> Started
     ensures { (result ≡ answer (deal step cards.now)) × (cards.now ≡ lent (deal step cards.now)) }
 {
     engine::deal(step, cards)
 }
 
-#[unsafe(no_mangle)]
-pub extern "C" fn gravyhelm_resume(step: u8, cards: &[u8], code: u64) -> Started
+pub fn gravyhelm_resume(step: u8, cards: &[u8], code: u64) -> Started
     ensures { (result ≡ answer (resume step cards.now code)) × (cards.now ≡ lent (resume step cards.now code)) }
 {
     engine::resume(step, cards, code)
 }
 
-#[unsafe(no_mangle)]
-pub extern "C" fn gravyhelm_save(p: Position) -> Saved
+pub fn gravyhelm_save(p: Position) -> Saved
     ensures { result ≡ answer (save p) }
 {
     engine::save(p)
 }
 
-#[unsafe(no_mangle)]
-pub extern "C" fn gravyhelm_masks(p: Position, pruned: u8) -> Masked
+pub fn gravyhelm_masks(p: Position, pruned: u8) -> Masked
     ensures { result ≡ answer (masks p pruned) }
 {
     engine::masks(p, pruned != 0)
 }
 
-#[unsafe(no_mangle)]
-pub extern "C" fn gravyhelm_test(p: Position, kind: u8, card: u8) -> Told
+pub fn gravyhelm_test(p: Position, kind: u8, card: u8) -> Told
     ensures { result ≡ answer (test p kind card) }
 {
     engine::test(p, kind, card)
 }
 
-#[unsafe(no_mangle)]
-pub extern "C" fn gravyhelm_list_into(p: Position, pruned: u8, out: &mut [u16]) -> Listed
+pub fn gravyhelm_list_into(p: Position, pruned: u8, out: &mut [u16]) -> Listed
     ensures { (result ≡ answer (list_into p pruned out.old)) × (out.new ≡ lent (list_into p pruned out.old)) }
 {
     engine::list_into(p, pruned != 0, out)
@@ -90,15 +84,13 @@ pub fn list<'a>(p: Position, pruned: u8, out: &'a mut [u16]) -> &'a mut [u16]
     engine::list(p, pruned != 0, out)
 }
 
-#[unsafe(no_mangle)]
-pub extern "C" fn gravyhelm_list_count(p: Position, pruned: u8, room: usize) -> Listed
+pub fn gravyhelm_list_count(p: Position, pruned: u8, room: usize) -> Listed
     ensures { result ≡ answer (list_count p pruned room) }
 {
     engine::list_count(p, pruned != 0, room)
 }
 
-#[unsafe(no_mangle)]
-pub extern "C" fn gravyhelm_do_move(
+pub fn gravyhelm_do_move(
     p: Position,
     history: &mut [u16],
     count: usize,
@@ -119,79 +111,68 @@ pub extern "C" fn gravyhelm_do_move(
     }
 }
 
-#[unsafe(no_mangle)]
-pub extern "C" fn gravyhelm_undo_move(p: Position, history: &[u16], count: usize) -> Undone
+pub fn gravyhelm_undo_move(p: Position, history: &[u16], count: usize) -> Undone
     ensures { (result ≡ answer (undo p history.now count)) × (history.now ≡ lent (undo p history.now count)) }
 {
     engine::undo_move(p, history, count)
 }
 
-#[unsafe(no_mangle)]
-pub extern "C" fn gravyhelm_is_win(p: Position) -> Told
+pub fn gravyhelm_is_win(p: Position) -> Told
     ensures { result ≡ answer (win p) }
 {
     engine::is_win(p)
 }
 
-#[unsafe(no_mangle)]
-pub extern "C" fn gravyhelm_is_sure_win(p: Position) -> Told
+pub fn gravyhelm_is_sure_win(p: Position) -> Told
     ensures { result ≡ answer (sure_win p) }
 {
     engine::is_sure_win(p)
 }
 
-#[unsafe(no_mangle)]
-pub extern "C" fn gravyhelm_ladder(p: Position, q: Position) -> Compared
+pub fn gravyhelm_ladder(p: Position, q: Position) -> Compared
     ensures { result ≡ answer (ladder p q) }
 {
     engine::ladder(p, q)
 }
 
-#[unsafe(no_mangle)]
-pub extern "C" fn gravyhelm_heights(p: Position) -> Heights
+pub fn gravyhelm_heights(p: Position) -> Heights
     ensures { result ≡ answer (heights p) }
 {
     engine::heights(p)
 }
 
-#[unsafe(no_mangle)]
-pub extern "C" fn gravyhelm_deck(p: Position) -> DeckView
+pub fn gravyhelm_deck(p: Position) -> DeckView
     ensures { result ≡ answer (deck p) }
 {
     engine::deck(p)
 }
 
-#[unsafe(no_mangle)]
-pub extern "C" fn gravyhelm_find(p: Position, card: u8) -> Located
+pub fn gravyhelm_find(p: Position, card: u8) -> Located
     ensures { result ≡ answer (find p card) }
 {
     engine::find(p, card)
 }
 
-#[unsafe(no_mangle)]
-pub extern "C" fn gravyhelm_offset(p: Position, n: u8) -> Offset
+pub fn gravyhelm_offset(p: Position, n: u8) -> Offset
     ensures { result ≡ answer (offset p n) }
 {
     engine::offset(p, n)
 }
 
-#[unsafe(no_mangle)]
-pub extern "C" fn gravyhelm_piles(p: Position, out: &mut [u8]) -> Piled
+pub fn gravyhelm_piles(p: Position, out: &mut [u8]) -> Piled
     ensures { (result ≡ answer (face_up p out.old)) × (out.new ≡ lent (face_up p out.old)) }
 {
     engine::piles(p, out)
 }
 
-#[unsafe(no_mangle)]
-pub extern "C" fn gravyhelm_deal_once(c: Cursor) -> DealtOnce
+pub fn gravyhelm_deal_once(c: Cursor) -> DealtOnce
     ensures { result ≡ answer (deal_once c) }
 {
     deck::deal_once(c)
 }
 
-// The deal on a lent cursor is `deck::deal_once_lent` line by line, so that its proof serves.
-#[unsafe(no_mangle)]
-pub extern "C" fn gravyhelm_deal_once_lent(c: &mut Cursor) -> u8
+// The deal on a lent cursor: `deck::deal_once_lent` line by line.
+pub fn gravyhelm_deal_once_lent(c: &mut Cursor) -> u8
     ensures { (result ≡ answer (deal_once_lent c.old)) × (c.new ≡ lent (deal_once_lent c.old)) }
 {
     let got = deck::deal_once(*c);

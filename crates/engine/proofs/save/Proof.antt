@@ -8,24 +8,30 @@ use Rattle.engine.proofs.save.Statement.{statement}
 use Rattle.engine.proofs.save.Tie as tie
 
 -- the way back to the position
-abbrev given : tie.After-is-proper → Position
-given c = c.before.args.p
+abbrev given : tie.After-is_proper → Position
+given c = c.args.p
 
-is-proper-requires : tie.Need-is-proper-requires
-is-proper-requires c κs = search rules
+is_proper-requires : tie.Need-is_proper-requires
+is_proper-requires c κs = search rules
+
+returns-then-not-is_proper : tie.Need-returns-then-not-is_proper
+unfolding save_answer improper
+returns-then-not-is_proper c = rw (is_wrong (given c.before) c.is_proper.ensures c.if-not-is_proper.true)
+
+encode-requires : tie.Need-encode-requires
+encode-requires c κs = is_proper_lem (given c.before) c.is_proper.ensures c.if-not-is_proper.false
 
 returns : tie.Need-returns
 unfolding save_answer improper
-returns c = rw (is_wrong (given c.before) c.before.is-proper.ensures c.if1.true)
+returns c =
+    let j = c.before in
+    rw (is_right (given j.before) j.is_proper.ensures c.if-not-is_proper.false, c.encode.ensures)
 
-encode-requires : tie.Need-encode-requires
-encode-requires c κs = is_proper_lem (given c.before) c.before.is-proper.ensures c.if1.false
-
-returns-2 : tie.Need-returns-2
-unfolding save_answer improper
-returns-2 c =
-    let j = c.before.before in
-    rw (is_right (given j) j.is-proper.ensures c.before.if1.false, c.encode.ensures)
-
-pub save-spec : {M : Type 1} → statement M
-save-spec = tie.close (tie.spec is-proper-requires returns encode-requires returns-2)
+pub save_spec : {M : Type 1} → statement M
+save_spec =
+    tie.close
+    (tie.spec
+    is_proper-requires
+    returns-then-not-is_proper
+    encode-requires
+    returns)

@@ -8,12 +8,16 @@ use Rattle.inside.specs.declared.Step.{Step}
 use Rattle.inside.proofs.inside_do_move.Statement.{statement}
 use Rattle.inside.proofs.inside_do_move.Tie as tie
 
-do-move-requires : tie.Need-do-move-requires
-do-move-requires c κs = search rules
+do_move-made-requires : tie.Need-do_move-made-requires
+do_move-made-requires c κs = search rules
 
 returns : tie.Need-returns
 unfolding made
-returns c = ap {B = Step} (λ (m : Made). record { position = m.position; byte = m.byte }) c.before.do-move.ensures
+returns c = ap {B = Step} (λ (m : Made). record { position = m.position; byte = m.byte }) c.do_move-made.ensures
 
-pub inside-do-move-spec : {M : Type 1} → statement M
-inside-do-move-spec = tie.close (tie.spec do-move-requires returns)
+pub inside_do_move_spec : {M : Type 1} → statement M
+inside_do_move_spec =
+    tie.close
+    (tie.spec
+    do_move-made-requires
+    returns)

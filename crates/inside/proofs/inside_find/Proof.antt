@@ -4,14 +4,19 @@ use borrow.Author.Rules.{rules}
 use Rattle.inside.proofs.inside_find.Statement.{statement}
 use Rattle.inside.proofs.inside_find.Tie as tie
 
-find-card-requires : tie.Need-find-card-requires
-find-card-requires c κs = search rules
+find_card-f-requires : tie.Need-find_card-f-requires
+find_card-f-requires c κs = search rules
 
-returns : tie.Need-returns
-returns c = let f = c.before.find-card in rw (← f.ensures.0, c.if1.true) f.ensures.1
+returns-then-f : tie.Need-returns-then-f
+returns-then-f c = let f = c.find_card-f in rw (← f.ensures.0, c.if-f.true) f.ensures.1
 
-returns-2 : tie.Need-returns-2
-returns-2 c = rw (← c.before.find-card.ensures.0, c.if1.false)
+returns-else-f : tie.Need-returns-else-f
+returns-else-f c = rw (← c.find_card-f.ensures.0, c.if-f.false)
 
-pub inside-find-spec : {M : Type 1} → statement M
-inside-find-spec = tie.close (tie.spec find-card-requires returns returns-2)
+pub inside_find_spec : {M : Type 1} → statement M
+inside_find_spec =
+    tie.close
+    (tie.spec
+    find_card-f-requires
+    returns-then-f
+    returns-else-f)

@@ -8,17 +8,23 @@ use borrow.Author.Rules.{rules}
 use Rattle.inside.proofs.inside_piles.Statement.{statement}
 use Rattle.inside.proofs.inside_piles.Tie as tie
 
-compute-visible-piles-requires : tie.Need-compute-visible-piles-requires
-compute-visible-piles-requires c κs = search rules
+compute_visible_piles-lens-requires : tie.Need-compute_visible_piles-lens-requires
+compute_visible_piles-lens-requires c κs = search rules
 
-array-read-result : tie.Need-array-read-result
-array-read-result c = search rules
+bounds-lens-0 : tie.Need-bounds-lens-0
+bounds-lens-0 c = search rules
 
-same_length : tie.Need-same-length
-same_length c = search rules
+shape_of-out : tie.Need-shape_of-out
+shape_of-out c = search rules
 
 returns : tie.Need-returns
-returns c = (ap (λ (l : List ℕ). get_or l 0 0) c.before.before.compute-visible-piles.ensures.0, c.before.before.compute-visible-piles.ensures.1)
+returns c = (ap (λ (l : List ℕ). get_or l 0 0) c.compute_visible_piles-lens.ensures.0, c.compute_visible_piles-lens.ensures.1)
 
-pub inside-piles-spec : {M : Type 1} → statement M
-inside-piles-spec = tie.close (tie.spec compute-visible-piles-requires array-read-result same_length returns)
+pub inside_piles_spec : {M : Type 1} → statement M
+inside_piles_spec =
+    tie.close
+    (tie.spec
+    compute_visible_piles-lens-requires
+    bounds-lens-0
+    shape_of-out
+    returns)

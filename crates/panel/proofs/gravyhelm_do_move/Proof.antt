@@ -8,14 +8,14 @@ use Rattle.panel.specs.Crossing.{moved_numbers}
 use Rattle.panel.proofs.gravyhelm_do_move.Statement.{statement}
 use Rattle.panel.proofs.gravyhelm_do_move.Tie as tie
 
-do-move-requires : tie.Need-do-move-requires
-do-move-requires c κs = search rules
+do_move-m-requires : tie.Need-do_move-m-requires
+do_move-m-requires c κs = search rules
 
 numbers-requires : tie.Need-numbers-requires
 numbers-requires c κs = search rules
 
-same_length : tie.Need-same-length
-same_length c = search rules
+shape_of-history : tie.Need-shape_of-history
+shape_of-history c = search rules
 
 -- an answer with these numbers for what was turned up
 abbrev with : Moved → TurnedNumbers → MovedNumbers
@@ -23,8 +23,14 @@ with m t = record { refusal = m.refusal; position = m.position; count = m.count;
 
 returns : tie.Need-returns
 returns c =
-    let m = c.before.before.before.before.do-move in
+    let m = c.do_move-m in
     (ap (with m.result) c.numbers.ensures ∙ ap moved_numbers m.ensures.0, m.ensures.1)
 
-pub gravyhelm-do-move-spec : {M : Type 1} → statement M
-gravyhelm-do-move-spec = tie.close (tie.spec do-move-requires numbers-requires same_length returns)
+pub gravyhelm_do_move_spec : {M : Type 1} → statement M
+gravyhelm_do_move_spec =
+    tie.close
+    (tie.spec
+    do_move-m-requires
+    numbers-requires
+    shape_of-history
+    returns)

@@ -3,11 +3,15 @@ use borrow.Author.Rules.{rules}
 use Rattle.panel.proofs.gravyhelm_is_win.Statement.{statement}
 use Rattle.panel.proofs.gravyhelm_is_win.Tie as tie
 
-is-win-requires : tie.Need-is-win-requires
-is-win-requires c κs = search rules
+is_win-requires : tie.Need-is_win-requires
+is_win-requires c κs = search rules
 
 returns : tie.Need-returns
-returns c = c.is-win.ensures
+returns c = c.is_win.ensures
 
-pub gravyhelm-is-win-spec : {M : Type 1} → statement M
-gravyhelm-is-win-spec = tie.close (tie.spec is-win-requires returns)
+pub gravyhelm_is_win_spec : {M : Type 1} → statement M
+gravyhelm_is_win_spec =
+    tie.close
+    (tie.spec
+    is_win-requires
+    returns)

@@ -3,14 +3,19 @@ use borrow.Author.Rules.{rules}
 use Rattle.panel.proofs.gravyhelm_list_into.Statement.{statement}
 use Rattle.panel.proofs.gravyhelm_list_into.Tie as tie
 
-list-into-requires : tie.Need-list-into-requires
-list-into-requires c κs = search rules
+list_into-requires : tie.Need-list_into-requires
+list_into-requires c κs = search rules
 
-same_length : tie.Need-same-length
-same_length c = search rules
+shape_of-out : tie.Need-shape_of-out
+shape_of-out c = search rules
 
 returns : tie.Need-returns
-returns c = c.before.before.list-into.ensures
+returns c = c.list_into.ensures
 
-pub gravyhelm-list-into-spec : {M : Type 1} → statement M
-gravyhelm-list-into-spec = tie.close (tie.spec list-into-requires same_length returns)
+pub gravyhelm_list_into_spec : {M : Type 1} → statement M
+gravyhelm_list_into_spec =
+    tie.close
+    (tie.spec
+    list_into-requires
+    shape_of-out
+    returns)

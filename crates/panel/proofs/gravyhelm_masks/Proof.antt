@@ -9,5 +9,9 @@ masks-requires c κs = search rules
 returns : tie.Need-returns
 returns c = c.masks.ensures
 
-pub gravyhelm-masks-spec : {M : Type 1} → statement M
-gravyhelm-masks-spec = tie.close (tie.spec masks-requires returns)
+pub gravyhelm_masks_spec : {M : Type 1} → statement M
+gravyhelm_masks_spec =
+    tie.close
+    (tie.spec
+    masks-requires
+    returns)

@@ -9,5 +9,9 @@ test-requires c κs = search rules
 returns : tie.Need-returns
 returns c = c.test.ensures
 
-pub gravyhelm-test-spec : {M : Type 1} → statement M
-gravyhelm-test-spec = tie.close (tie.spec test-requires returns)
+pub gravyhelm_test_spec : {M : Type 1} → statement M
+gravyhelm_test_spec =
+    tie.close
+    (tie.spec
+    test-requires
+    returns)

@@ -9,5 +9,9 @@ list-requires c κs = search rules
 returns : tie.Need-returns
 returns c i = (c.list.ensures.0 i, c.list.ensures.1 i)
 
-pub list-spec : {M : Type 1} → statement M
-list-spec = tie.close (tie.spec list-requires returns)
+pub list_spec : {M : Type 1} → statement M
+list_spec =
+    tie.close
+    (tie.spec
+    list-requires
+    returns)
