@@ -11,13 +11,13 @@ use Rattle.rules.proofs.PrunedLaw.{pruned_within as within}
 use Rattle.rules.proofs.Worked.{worked}
 use Rattle.facts.proofs.MovesProper.{moves_keep_proper as kept-proper}
 use Rattle.laws.proofs.UndoMove.{undo_after_move as undone}
-use Rattle.laws.proofs.UndoSame.{undo_same as same}
-use Rattle.laws.proofs.UndoGame.{undo_whole_game as whole}
+use Rattle.laws.proofs.UndoAlike.{undo_same as same}
+use Rattle.laws.proofs.UndoWhole.{undo_whole_game as whole}
 use Rattle.laws.proofs.UndoSound.{undoable_sound as sound}
 use Rattle.laws.proofs.UndoExact.{refusal_exact as exact, undoable_complete as complete, earlier_unique as unique}
 use Rattle.laws.proofs.ShapeNeeded.{shape_needed as needed}
 use Rattle.facts.proofs.EntryFits.{entries_fit as fit}
-use Rattle.laws.proofs.ResumesSaved.{resumes_saved}
+use Rattle.laws.proofs.CodeResumes.{resumes_saved}
 use Rattle.laws.proofs.SavesResumed.{saves_resumed, resumed_right}
 use Rattle.facts.proofs.FreshProper.{fresh_proper as fresh}
 use Rattle.laws.proofs.OneCode.{code_of_one as one_code}
@@ -25,7 +25,7 @@ use Rattle.laws.proofs.Listed.{listed_within as listed, lists_legal as legal}
 use Rattle.laws.proofs.Few.{lists_few as few}
 use Rattle.laws.proofs.ShownOnce.{shows_once as shown}
 use Rattle.laws.proofs.PileBytes.{bytes_show_once as bytes}
-use Rattle.laws.proofs.Arranged.{piles_arranged as arranged}
+use Rattle.laws.proofs.PilesArranged.{piles_arranged as arranged}
 use Rattle.laws.proofs.Games.{Meets, Answer}
 use Rattle.laws.proofs.NotVacuous.{W', calls, sights, code, calls_then, sights_then, meets_fresh, answers_fresh, meets_resumed, answers_resumed}
 use Rattle.laws.proofs.Leaks.{LeaksNoticed, leaks_noticed as noticed}
