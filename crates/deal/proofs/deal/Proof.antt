@@ -43,9 +43,8 @@ fresh-requires c κs k l = omega (arith, ap (λ (d : List ℕ). get_or d k 0) c.
 returns : tie.Need-returns
 unfolding deal_answer
 returns c =
-    let b = c.before in
-    let s = (begun b.before).args in
-    is_started (deal_refusal s.cards.now s.step) (fresh s.cards.now s.step) _ (sym b.deal_refusal-wrong.ensures ∙ b.if-wrong-ne-ACCEPTED.false)
+    let s = c.args in
+    is_started (deal_refusal s.cards.now s.step) (fresh s.cards.now s.step) _ (sym c.deal_refusal-wrong.ensures ∙ c.if-wrong-ne-ACCEPTED.false)
     (c.fresh.ensures ∙ ap (λ (d : List ℕ). fresh d s.step) c.as_deal.ensures)
 
 pub deal_spec : {M : Type 1} → statement M
