@@ -1,12 +1,12 @@
 -- The deck's slots filled from the front, and what they hold after a card went out or came in.
 -- Assumes nothing.
 use mathlib.Core.Path.{◌≡◌, refl, sym, ap, ap₂, ◌∙◌}
-use mathlib.Core.List.{List, [], ◌∷◌, ◌++◌, append_assoc, append-nil}
+use mathlib.Core.List.{List, [], ◌∷◌, ◌++◌, append_assoc}
 use Prim.Native.Nat.{ℕ, suc, ◌+◌, ◌-◌, ◌≤◌, ◌<◌}
 use native.Mathlib.Numerals.{add-one}
 use native.Mathlib.Omega.{arith}
 use lib.ListN.{length, get_or, take, drop, set, replicate, length-append, length-drop, length-replicate, replicate-append-replicate}
-use lib.Seq.{length-take-le, drop-length, drop-drop, take_all, take-suc, take_at, drop_at, set_at, split_at, get_or-take, take-take, take-add, drop-append-add, append_snoc, paste}
+use lib.Seq.{length-take-le, drop-drop, take_all, take-suc, take_at, drop_at, set_at, split_at, get_or-take, take-take, take-add, drop-append-add, append_snoc, paste}
 use borrow.Rule.Slice.PartMut.{mid_of, put_mid}
 use Rattle.rules.specs.Play.{slots, draw_at, push_at}
 use Rattle.rules.proofs.SlotsLaw.{slots_front}

@@ -1,8 +1,7 @@
 -- What a call's yes or no says of what it ensures.
 -- Assumes nothing.
-use mathlib.Core.Bool.{Bool, true, false, not}
+use mathlib.Core.Bool.{Bool, true, false}
 use mathlib.Core.Path.{◌≡◌, sym, ◌∙◌}
-use borrow.Author.Tests.{not-true, not-false}
 
 module _ {r b : Bool} (e : r ≡ b) where
   pub denied : r ≡ false → b ≡ false

@@ -8,7 +8,7 @@ use native.Mathlib.Omega.{arith}
 use lib.Dec.{eqb, ltb}
 use lib.ListN.{get_or, length}
 use borrow.Author.Rules.{rules}
-use borrow.Author.Tests.{eq-eqb, ne_eqb, not-true, not-false}
+use borrow.Author.Tests.{eq-eqb, ne_eqb}
 use Rattle.rules.specs.Bits.{all_of}
 use Rattle.rules.specs.Proper.{are_cards, are_different, step_right}
 use Rattle.deal.proofs.DealTest.{not_small, not_filled, filled_cards, different_is}

@@ -1,7 +1,6 @@
 -- `deck::decode` meets its contract.
 -- Assumes nothing.
 use mathlib.Core.Bool.{true, false}
-use mathlib.Core.Logic.{⊎_elim}
 use mathlib.Core.List.{List}
 use mathlib.Core.Path.{◌≡◌, sym, ap, ◌∙◌}
 use Prim.Native.Nat.{ℕ, ◌+◌, ◌-◌, ◌≤◌, ◌<◌}
@@ -57,19 +56,19 @@ loop-k-preserved c =
     let xs = placed a.deal f in
     let low : l.k < 24 = c.loop-k-test.true in
     elim c.if-field-k-ne0.branch [
-      then-field-k-ne0 w ↦
-    let e : f l.k ≡ true = is_set a.field l.k w.if-field-k-ne0.true in
-    let v : ℕ = get_or a.deal (28 + l.k) 0 in
-    let card : v ≡ get_or xs l.left 0 = placed_at a.deal f l.k low e ∙ ap (λ (i : ℕ). get_or xs i 0) (sym l.invariant.1) in (
-      omega arith,
-      omega (arith, w.left-is, l.invariant.1, count_next f l.k true e),
-      w.deck-is ∙ ap (λ (d : List ℕ). set d l.left v) l.invariant.2
-          ∙ fill_turn xs l.left v (omega (arith, l.invariant.1, placed_length a.deal f, count_below 24 f l.k low e)) (omega (arith, count_le l.k f, l.invariant.1)) card
-          ∙ ap (filled xs) (sym w.left-is),
-    )
-    | else-field-k-ne0 w ↦
-    let e : f l.k ≡ false = is_clear a.field l.k w.if-field-k-ne0.false in
-    (omega arith, omega (arith, w.left-is, l.invariant.1, count_next f l.k false e), w.deck-is ∙ l.invariant.2 ∙ ap (filled xs) (sym w.left-is))
+      | then-field-k-ne0 w ↦
+          let e : f l.k ≡ true = is_set a.field l.k w.if-field-k-ne0.true in
+          let v : ℕ = get_or a.deal (28 + l.k) 0 in
+          let card : v ≡ get_or xs l.left 0 = placed_at a.deal f l.k low e ∙ ap (λ (i : ℕ). get_or xs i 0) (sym l.invariant.1) in (
+            omega arith,
+            omega (arith, w.left-is, l.invariant.1, count_next f l.k true e),
+            w.deck-is ∙ ap (λ (d : List ℕ). set d l.left v) l.invariant.2
+                ∙ fill_turn xs l.left v (omega (arith, l.invariant.1, placed_length a.deal f, count_below 24 f l.k low e)) (omega (arith, count_le l.k f, l.invariant.1)) card
+                ∙ ap (filled xs) (sym w.left-is),
+          )
+      | else-field-k-ne0 w ↦
+          let e : f l.k ≡ false = is_clear a.field l.k w.if-field-k-ne0.false in
+          (omega arith, omega (arith, w.left-is, l.invariant.1, count_next f l.k false e), w.deck-is ∙ l.invariant.2 ∙ ap (filled xs) (sym w.left-is))
     ]
 
 overflow_cast-result : tie.Need-overflow_cast-result invariant-loop-k decreases-loop-k

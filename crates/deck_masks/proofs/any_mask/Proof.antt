@@ -1,6 +1,5 @@
 -- `deck_masks::any_mask` meets its contract.
 -- Assumes nothing.
-use mathlib.Core.Logic.{⊎_elim}
 use mathlib.Core.Path.{◌≡◌, ap₂, ◌∙◌}
 use Prim.Native.Nat.{◌-◌}
 use native.Mathlib.Omega.{arith}
@@ -41,8 +40,8 @@ end c =
     let f = facts p c.requires in
     let less : c.if-end-gt0.end ≡ c.if-offset-step-ne0.end - 1 = elim c.if-end-gt0.branch [ then-end-gt0 w ↦ omega arith | else-end-gt0 w ↦ omega arith ] in
     elim c.if-offset-step-ne0.branch [
-      then-offset-step-ne0 w ↦ ends_off p c.if-end-gt0.end (omega (arith, w.end-is))
-    | else-offset-step-ne0 w ↦ ends_pure p c.if-end-gt0.end f.offset w.if-offset-step-ne0.false (omega (arith, w.end-is))
+      | then-offset-step-ne0 w ↦ ends_off p c.if-end-gt0.end (omega (arith, w.end-is))
+      | else-offset-step-ne0 w ↦ ends_pure p c.if-end-gt0.end f.offset w.if-offset-step-ne0.false (omega (arith, w.end-is))
     ]
 
 walk-requires : tie.Need-walk-requires

@@ -1,7 +1,6 @@
 -- `deck_masks::soon_mask` meets its contract.
 -- Assumes nothing.
 use mathlib.Core.Bool.{◌&&◌}
-use mathlib.Core.Logic.{⊎_elim}
 use mathlib.Core.Path.{◌≡◌, sym, ap, ap₂, ◌∙◌, subst}
 use Prim.Native.Nat.{ℕ, ◌-◌, ◌<◌, ◌≤◌}
 use native.Mathlib.Omega.{arith}
@@ -71,8 +70,8 @@ returns c =
     let from = c.if-offset-gt0.from in
     let s : Starts from p.offset p.step =
     elim c.if-offset-gt0.branch [
-      then-offset-gt0 w ↦ subst (λ (x : ℕ). Starts x p.offset p.step) (sym w.from-is) (starts_pos p.offset p.step w.if-offset-gt0.true)
-    | else-offset-gt0 w ↦ subst (λ (x : ℕ). Starts x p.offset p.step) (sym w.from-is) (starts_zero p.offset p.step f.step_pos w.if-offset-gt0.false)
+      | then-offset-gt0 w ↦ subst (λ (x : ℕ). Starts x p.offset p.step) (sym w.from-is) (starts_pos p.offset p.step w.if-offset-gt0.true)
+      | else-offset-gt0 w ↦ subst (λ (x : ℕ). Starts x p.offset p.step) (sym w.from-is) (starts_zero p.offset p.step f.step_pos w.if-offset-gt0.false)
     ] in
     ap₂ bit_or c.walk.ensures c.card_mask.ensures
     ∙ soon p from f.left f.step_pos f.offset n (deck_cards p _ c.well_formed.0 c.requires (p.left - 1) (omega arith)) s

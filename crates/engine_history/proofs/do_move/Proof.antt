@@ -18,7 +18,7 @@ use Rattle.facts.proofs.EntryFits.{byte_fits}
 use Rattle.play.specs.declared.Made.{Made}
 use Rattle.play.specs.Made.{made}
 use Rattle.play.proofs.Answered.{denied, granted}
-use Rattle.proper.proofs.Judged.{is_wrong, is_right, is_proper_lem}
+use Rattle.proper.proofs.Judged.{is_wrong, is_right}
 use Rattle.engine_history.proofs.do_move.Statement.{statement}
 use Rattle.engine_history.proofs.do_move.Tie as tie
 

@@ -94,12 +94,12 @@ loop-i-preserved c =
       omega arith,
       below_more _ _ b.loop-i.invariant.1
           (elim c.else-has_place.branch [
-            else-has_place-via-then-has_place+else-deal-pile_start w ↦
-              let s = w.pile_start.result in
-              let h = sym c.has_place.ensures ∙ w.if-has_place.true in
-              let k : s + m - 1 ≡ pile_start i + (m - 1) = omega (arith, w.pile_start.ensures, place_some m i h) in
-              other_card a.deal.now a.card (s + m - 1) (pile_start i + (m - 1)) k (has_place m i) (ne_eqb _ _ w.if-deal-pile_start.false)
-          | else-has_place-via-else-has_place w ↦ no_place (has_place m i) _ (sym c.has_place.ensures ∙ w.if-has_place.false)
+            | else-has_place-via-then-has_place+else-deal-pile_start w ↦
+                let s = w.pile_start.result in
+                let h = sym c.has_place.ensures ∙ w.if-has_place.true in
+                let k : s + m - 1 ≡ pile_start i + (m - 1) = omega (arith, w.pile_start.ensures, place_some m i h) in
+                other_card a.deal.now a.card (s + m - 1) (pile_start i + (m - 1)) k (has_place m i) (ne_eqb _ _ w.if-deal-pile_start.false)
+            | else-has_place-via-else-has_place w ↦ no_place (has_place m i) _ (sym c.has_place.ensures ∙ w.if-has_place.false)
           ]),
     )
 

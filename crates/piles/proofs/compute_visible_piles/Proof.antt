@@ -1,7 +1,6 @@
 -- `piles::compute_visible_piles` meets its contract. The loop's invariant: for a proper position with these fields, what the first i piles
 -- show and what the others will is the answer.
 -- Assumes nothing.
-use mathlib.Core.Logic.{⊎_elim}
 use mathlib.Core.Path.{◌≡◌, refl, ap, ◌∙◌}
 use mathlib.Core.List.{List}
 use Prim.Native.Nat.{ℕ, ◌+◌, ◌-◌, ◌*◌, ◌^◌, ◌≤◌, ◌<◌}
@@ -146,15 +145,15 @@ loop-i-preserved c =
     let big : 91 ≤ length l.out = omega (arith, v.size, s.requires.1) in
     let n = get_or s.args.p.counts i 0 in
     elim c.if-n-gt0.branch [
-      then-n-gt0 w ↦
-        let e : w.pile_start.result + n - 1 ≡ pile_start i + (n - 1) = omega (arith, w.pile_start.ensures, w.if-n-gt0.true) in
-        record {
-          filled = omega arith;
-          size = omega (arith, c.if-n-gt0.auto.out, v.size);
-          seven = ap length w.lens-is ∙ length-set l.lens i w.fill_run.result ∙ v.seven;
-          shown = λ p r. rw (w.out-is, w.lens-is, w.from-is) (head_turn p _ _ _ _ r _ _ _ _ _ low v.seven big (v.shown p r) _ _ w.if-n-gt0.true (rw e at w.fill_run.ensures.0) (rw e at w.fill_run.ensures.1));
-        }
-    | else-n-gt0 w ↦ record {
+      | then-n-gt0 w ↦
+          let e : w.pile_start.result + n - 1 ≡ pile_start i + (n - 1) = omega (arith, w.pile_start.ensures, w.if-n-gt0.true) in
+          record {
+            filled = omega arith;
+            size = omega (arith, c.if-n-gt0.auto.out, v.size);
+            seven = ap length w.lens-is ∙ length-set l.lens i w.fill_run.result ∙ v.seven;
+            shown = λ p r. rw (w.out-is, w.lens-is, w.from-is) (head_turn p _ _ _ _ r _ _ _ _ _ low v.seven big (v.shown p r) _ _ w.if-n-gt0.true (rw e at w.fill_run.ensures.0) (rw e at w.fill_run.ensures.1));
+          }
+      | else-n-gt0 w ↦ record {
         filled = omega arith;
         size = omega (arith, c.if-n-gt0.auto.out, v.size);
         seven = ap length w.lens-is ∙ length-set l.lens i w.fill_empty-f.result.len ∙ v.seven;

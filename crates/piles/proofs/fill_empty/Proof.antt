@@ -1,6 +1,5 @@
 -- `piles::fill_empty` meets its contract. The loop's invariant: from the suit s on there are the same kings as from the first suit on.
 -- Assumes nothing.
-use mathlib.Core.Logic.{⊎_elim}
 use mathlib.Core.Path.{◌≡◌, sym, ◌∙◌, subst}
 use Prim.Native.Nat.{◌-◌, ◌<◌}
 use native.Mathlib.Omega.{arith}
@@ -46,10 +45,10 @@ found c =
     let s = c.args in
     let l = c.loop-s in
     elim c.if-s-ge-SUITS.branch [
-      then-s-ge-SUITS w ↦ subst (Yields s.free s.from) (sym w.next-is) (l.invariant ∙ kings_end s.free l.s (omega (arith, w.if-s-ge-SUITS.true)))
-    | else-s-ge-SUITS+then-has w ↦
-      let low : l.s < 4 = omega (arith, w.if-s-ge-SUITS.false) in
-      subst (Yields s.free s.from) (sym w.next-is) (low, l.invariant ∙ kings_step s.free l.s low ∙ rw (← w.has.ensures, w.if-has.true))
+      | then-s-ge-SUITS w ↦ subst (Yields s.free s.from) (sym w.next-is) (l.invariant ∙ kings_end s.free l.s (omega (arith, w.if-s-ge-SUITS.true)))
+      | else-s-ge-SUITS+then-has w ↦
+          let low : l.s < 4 = omega (arith, w.if-s-ge-SUITS.false) in
+          subst (Yields s.free s.from) (sym w.next-is) (low, l.invariant ∙ kings_step s.free l.s low ∙ rw (← w.has.ensures, w.if-has.true))
     ]
 
 -- the king that was found; or that there is none

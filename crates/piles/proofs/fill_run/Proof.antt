@@ -1,12 +1,10 @@
 -- `piles::fill_run` meets its contract. The loop's invariant: n cards of the run are written, and card is the next.
 -- Assumes nothing.
-use mathlib.Core.Logic.{⊎_elim}
 use mathlib.Core.Path.{refl, sym, ap, ◌∙◌, subst}
 use Prim.Native.Nat.{ℕ, ◌+◌, ◌-◌}
 use native.Mathlib.Omega.{arith}
 use lib.ListN.{length, set, length-set}
 use Rattle.bits.specs.Bit.{bit}
-use borrow.Author.Tests.{not-true, not-false}
 use Rattle.piles.proofs.Pairs.{tried_rank}
 use Rattle.piles.proofs.Row.{Written, ends_ace, ends_here, goes_on}
 use borrow.Author.Rules.{rules}
@@ -66,10 +64,10 @@ returns c =
     let l = c.loop-card in
     let s = c.args in
     elim c.if-card-lt-SUITS.branch [
-      then-card-lt-SUITS w ↦ ends_ace s.vis s.free s.start l.card l.n l.part l.invariant w.if-card-lt-SUITS.true
-    | else-card-lt-SUITS+then-not-has w ↦
-      ends_here s.vis s.free s.start l.card l.n l.part l.invariant w.if-card-lt-SUITS.false
-      (ap (bit s.free) (sym w.next_card-card.ensures) ∙ sym w.has.ensures ∙ w.if-not-has.true)
+      | then-card-lt-SUITS w ↦ ends_ace s.vis s.free s.start l.card l.n l.part l.invariant w.if-card-lt-SUITS.true
+      | else-card-lt-SUITS+then-not-has w ↦
+          ends_here s.vis s.free s.start l.card l.n l.part l.invariant w.if-card-lt-SUITS.false
+          (ap (bit s.free) (sym w.next_card-card.ensures) ∙ sym w.has.ensures ∙ w.if-not-has.true)
     ]
 
 pub fill_run_spec : {M : Type 1} → statement M

@@ -65,10 +65,10 @@ drew c =
     let s = (drawn d).suit-suit.result in
     let e = (drawn d).suit-suit.ensures in
     elim c.if-kind-eq-DECK_STACK.branch [
-      then-kind-eq-DECK_STACK w ↦ from_deck_up p card kind c.if-kind-eq-DECK_STACK.p w.if-kind-eq-DECK_STACK.true (w.p-is ∙ drawn_up p card s e k.place_of-place.result d.draw-rest.result k.place_of-place.ensures d.draw-rest.ensures)
-    | else-kind-eq-DECK_STACK w ↦
-      from_deck p card kind c.if-kind-eq-DECK_STACK.p (⊎_elim (λ z. absurd (w.if-kind-eq-DECK_STACK.false z)) (λ z. z) b.requires.2)
-    (w.p-is ∙ drawn_laid p card s e k.place_of-place.result d.draw-rest.result w.seen.result k.place_of-place.ensures d.draw-rest.ensures w.seen.ensures)
+      | then-kind-eq-DECK_STACK w ↦ from_deck_up p card kind c.if-kind-eq-DECK_STACK.p w.if-kind-eq-DECK_STACK.true (w.p-is ∙ drawn_up p card s e k.place_of-place.result d.draw-rest.result k.place_of-place.ensures d.draw-rest.ensures)
+      | else-kind-eq-DECK_STACK w ↦
+          from_deck p card kind c.if-kind-eq-DECK_STACK.p (⊎_elim (λ z. absurd (w.if-kind-eq-DECK_STACK.false z)) (λ z. z) b.requires.2)
+          (w.p-is ∙ drawn_laid p card s e k.place_of-place.result d.draw-rest.result w.seen.result k.place_of-place.ensures d.draw-rest.ensures w.seen.ensures)
     ]
 
 -- ---- what the code asks

@@ -1,7 +1,6 @@
 -- `play::make::from_table` meets its contract: halfway through it the kinds come together, and the pile is turned for all of them.
 -- Assumes nothing.
 use borrow.Author.Rules.{rules}
-use mathlib.Core.Logic.{⊎_elim}
 use mathlib.Core.Path.{◌≡◌, sym, ap, ap₂, ◌∙◌}
 use Prim.Native.Nat.{ℕ, ◌+◌, ◌-◌, ◌≤◌, ◌<◌}
 use native.Mathlib.Omega.{arith}
@@ -56,11 +55,11 @@ mid c =
     let e = c.suit-suit.ensures in
     let m = c.match-kind in
     elim m.branch [
-      in-3 w ↦ from_stack p card kind m.p m.byte m.pile w.in-3.is (w.p-is ∙ down_laid p card s e w.one_less.result w.seen.result w.one_less.ensures w.seen.ensures) w.byte-is w.pile-is
-    | in-1 w ↦
-      from_pile_up p card kind m.p m.byte m.pile b.requires.0 w.in-1.is (w.p-is ∙ up_lifted p card s e w.unseen.result w.unseen.ensures)
-      (w.byte-is ∙ ap (λ (i : ℕ). bool_byte (ltb i 7)) (sym w.pile-is)) (w.pile-is ∙ w.head_pile-pile.ensures)
-    | in_default w ↦ to_pile p card kind m.p m.byte m.pile b.requires.0 b.requires.1 (rest b.requires.2 w.in_default.in_default-own.rest) w.p-is w.byte-is (w.pile-is ∙ w.head_pile-pile-in_default.ensures)
+      | in-3 w ↦ from_stack p card kind m.p m.byte m.pile w.in-3.is (w.p-is ∙ down_laid p card s e w.one_less.result w.seen.result w.one_less.ensures w.seen.ensures) w.byte-is w.pile-is
+      | in-1 w ↦
+          from_pile_up p card kind m.p m.byte m.pile b.requires.0 w.in-1.is (w.p-is ∙ up_lifted p card s e w.unseen.result w.unseen.ensures)
+          (w.byte-is ∙ ap (λ (i : ℕ). bool_byte (ltb i 7)) (sym w.pile-is)) (w.pile-is ∙ w.head_pile-pile.ensures)
+      | in_default w ↦ to_pile p card kind m.p m.byte m.pile b.requires.0 b.requires.1 (rest b.requires.2 w.in_default.in_default-own.rest) w.p-is w.byte-is (w.pile-is ∙ w.head_pile-pile-in_default.ensures)
     ]
 
 -- the count of the pile that is turned
@@ -86,18 +85,18 @@ end c =
     let n = get_or q.counts m.pile 0 in
     let h = mid c.before in
     elim c.if-pile-lt-N_PILES.branch [
-      then-pile-lt-N_PILES+then-n-gt1 w ↦
-        let x = get_or q.deal (w.pile_start.result + n - 2) 0 in
-        let k : w.pile_start.result + n - 2 ≡ pile_start m.pile + (n - 2) = omega (arith, w.pile_start.ensures, w.if-n-gt1.true) in
-        let l = w.one_less-then-pile-lt-N_PILES in
-        let u = w.seen-then-n-gt1 in
-        put m.byte w.p-is w.turned-is
-        ∙ uncovered_card q m.pile l.result m.byte x u.result l.ensures w.if-n-gt1.true (ap (λ (y : ℕ). get_or q.deal y 0) k) u.ensures
-        ∙ h.some w.if-pile-lt-N_PILES.true
-    | then-pile-lt-N_PILES+else-n-gt1 w ↦
-        let l = w.one_less-then-pile-lt-N_PILES in
-        put m.byte w.p-is w.turned-is ∙ uncovered_emptied q m.pile l.result m.byte l.ensures w.if-n-gt1.false ∙ h.some w.if-pile-lt-N_PILES.true
-    | else-pile-lt-N_PILES w ↦ put m.byte w.p-is w.turned-is ∙ h.none w.if-pile-lt-N_PILES.false
+      | then-pile-lt-N_PILES+then-n-gt1 w ↦
+          let x = get_or q.deal (w.pile_start.result + n - 2) 0 in
+          let k : w.pile_start.result + n - 2 ≡ pile_start m.pile + (n - 2) = omega (arith, w.pile_start.ensures, w.if-n-gt1.true) in
+          let l = w.one_less-then-pile-lt-N_PILES in
+          let u = w.seen-then-n-gt1 in
+          put m.byte w.p-is w.turned-is
+          ∙ uncovered_card q m.pile l.result m.byte x u.result l.ensures w.if-n-gt1.true (ap (λ (y : ℕ). get_or q.deal y 0) k) u.ensures
+          ∙ h.some w.if-pile-lt-N_PILES.true
+      | then-pile-lt-N_PILES+else-n-gt1 w ↦
+          let l = w.one_less-then-pile-lt-N_PILES in
+          put m.byte w.p-is w.turned-is ∙ uncovered_emptied q m.pile l.result m.byte l.ensures w.if-n-gt1.false ∙ h.some w.if-pile-lt-N_PILES.true
+      | else-pile-lt-N_PILES w ↦ put m.byte w.p-is w.turned-is ∙ h.none w.if-pile-lt-N_PILES.false
     ]
 
 -- ---- what the code asks

@@ -1,7 +1,6 @@
 -- `play::unmake::to_table` meets its contract: halfway through it the kinds come together, and the pile is turned back for all of them.
 -- Assumes nothing.
 use borrow.Author.Rules.{rules}
-use mathlib.Core.Logic.{⊎_elim}
 use mathlib.Core.Path.{◌≡◌, refl, ap, ◌∙◌}
 use Prim.Native.Nat.{ℕ, ◌+◌, ◌-◌, ◌≤◌, ◌<◌}
 use native.Mathlib.Omega.{arith}
@@ -48,13 +47,13 @@ mid c =
     let e = c.suit-suit.ensures in
     let m = c.match-kind in
     elim m.branch [
-      in-3 w ↦ to_stack p byte card kind m.p m.pile w.in-3.is (w.p-is ∙ lifted_up p card s e w.unseen.result w.unseen.ensures) w.pile-is
-    | in-1+then-byte-ne0 w ↦
-      head_down p byte card kind m.p m.pile b.requires.0 b.requires.1 w.in-1.is w.if-byte-ne0.true
-      (w.p-is ∙ down_laid p card s e w.one_less.result w.seen.result w.one_less.ensures w.seen.ensures) (w.pile-is ∙ w.bare_pile-pile.ensures)
-    | in-1+else-byte-ne0 w ↦
-      card_down p byte card kind m.p m.pile w.in-1.is w.if-byte-ne0.false (w.p-is ∙ down_laid p card s e w.one_less.result w.seen.result w.one_less.ensures w.seen.ensures) w.pile-is
-    | in_default w ↦ head_back p byte card kind m.p m.pile b.requires.0 b.requires.1 (rest b.requires.2 w.in_default.in_default-own.rest) w.p-is (w.pile-is ∙ w.bare_pile-pile-in_default.ensures)
+      | in-3 w ↦ to_stack p byte card kind m.p m.pile w.in-3.is (w.p-is ∙ lifted_up p card s e w.unseen.result w.unseen.ensures) w.pile-is
+      | in-1+then-byte-ne0 w ↦
+          head_down p byte card kind m.p m.pile b.requires.0 b.requires.1 w.in-1.is w.if-byte-ne0.true
+          (w.p-is ∙ down_laid p card s e w.one_less.result w.seen.result w.one_less.ensures w.seen.ensures) (w.pile-is ∙ w.bare_pile-pile.ensures)
+      | in-1+else-byte-ne0 w ↦
+          card_down p byte card kind m.p m.pile w.in-1.is w.if-byte-ne0.false (w.p-is ∙ down_laid p card s e w.one_less.result w.seen.result w.one_less.ensures w.seen.ensures) w.pile-is
+      | in_default w ↦ head_back p byte card kind m.p m.pile b.requires.0 b.requires.1 (rest b.requires.2 w.in_default.in_default-own.rest) w.p-is (w.pile-is ∙ w.bare_pile-pile-in_default.ensures)
     ]
 
 -- the count of the pile that is turned back
