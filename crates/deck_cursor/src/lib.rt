@@ -29,6 +29,7 @@ fn div_ceil(x: u8, step: u8) -> u8
 }
 
 // The offset after a deal.
+#[tactic(auto, using(rules::proofs::DealsLaw::dealt_end, rules::proofs::DealsLaw::dealt_on))]
 pub fn offset_once(len: u8, step: u8, cur: u8) -> u8
     requires { (len ≤ 24) × (step ≤ 24) }
     ensures { result ≡ dealt len step cur }

@@ -29,6 +29,7 @@ pub fn is_win(p: Position) -> Told
 }
 
 // Whether at most one card is in the deck and nothing is buried.
+#[tactic(auto, using(proper::proofs::Judged::is_wrong, proper::proofs::Judged::is_right), unfolding(rules::specs::Answers::sure_win_answer, rules::specs::Answers::improper, rules::specs::Answers::told, rules::specs::Answers::is_sure_win))]
 pub fn is_sure_win(p: Position) -> Told
     ensures { result ≡ sure_win_answer p }
 {

@@ -12,6 +12,7 @@ use card::N_PILES;
 const N_CODES: u16 = 40320;
 
 // No card is buried.
+#[tactic(auto, using(bits::proofs::Steps::all_more, crate::proofs::AllUp::not_all_up), unfolding(rules::specs::Hidden::all_up))]
 pub fn is_all_up(counts: &[u8; 7]) -> bool
     ensures { result ≡ all_up counts.now }
 {
