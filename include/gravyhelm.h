@@ -1,4 +1,4 @@
-/* Gravyhelm: the rules of Klondike, proved. What C and C++ link: target/staticlib/libpanel.a, which `rt staticlib panel` writes (x86-64).
+/* Gravyhelm: the rules of Klondike, proved. What C and C++ link: target/staticlib/libpanel.a, which `tools/staticlib panel` writes (x86-64).
  *
  * Every call takes any input at all. It judges what it is given, and says no with one of the numbers below, the first that fits in the order that stands with the call.
  * A refused call hands back the position it was given, 0 for all else, and writes nothing. Nothing is kept between two calls, nothing is allocated, and no call fails.

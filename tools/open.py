@@ -16,7 +16,7 @@ for mod in mods:
         if name in homes and homes[name] != mod:
             if name in handed:
                 continue
-            alias = mod.lower() + "-" + name
+            alias = mod.lower() + "_" + name
             uses.append(f"{name} as {alias}")
             names.append(alias)
         else:
@@ -24,10 +24,10 @@ for mod in mods:
             uses.append(name)
             names.append(name)
     if uses:
-        out.append(f"use Rattle·rules·specs.specs.{mod}." + "{" + ", ".join(uses) + "}")
+        out.append(f"use Rattle.rules.specs.{mod}." + "{" + ", ".join(uses) + "}")
 # the costly ones: a proof that leaves them closed computes each once for a position, and rewrites by that
-costly = ["proper", "masksFor"]
+costly = ["proper", "masks_for"]
 out += ["", "-- all of them but " + " and ".join(f"`{n}`" for n in costly) + ": a proof may then compute these once for a position, and rewrite by that"]
-out += ["unfoldable pub rulesBut : Unit {0}", "unfolding " + " ".join(n for n in names if n not in costly), "rulesBut = tt"]
-out += ["", "unfoldable pub rules : Unit {0}", "unfolding rulesBut " + " ".join(costly), "rules = tt"]
+out += ["unfoldable pub rules_but : Unit {0}", "unfolding " + " ".join(n for n in names if n not in costly), "rules_but = tt"]
+out += ["", "unfoldable pub rules : Unit {0}", "unfolding rules_but " + " ".join(costly), "rules = tt"]
 open(BASE + "proofs/Open.antt", "w").write("\n".join(out) + "\n")

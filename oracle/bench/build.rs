@@ -1,4 +1,4 @@
-//! Links the library of inner calls, which `rt staticlib inside` writes.
+//! Links the library of inner calls, which `tools/staticlib inside` writes.
 fn main() {
     let root = std::env::var("CARGO_MANIFEST_DIR").unwrap();
     println!("cargo:rustc-link-search=native={root}/../../target/staticlib");

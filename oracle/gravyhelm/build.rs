@@ -1,4 +1,4 @@
-//! Tells cargo where the proved static library is: `rt staticlib panel`, from the project's root, writes it.
+//! Tells cargo where the proved static library is: `tools/staticlib panel`, from the project's root, writes it.
 use std::path::Path;
 
 fn main() {
@@ -7,7 +7,7 @@ fn main() {
     let library = folder.join("libpanel.a");
     println!("cargo:rerun-if-changed={}", library.display());
     if !library.exists() {
-        eprintln!("target/staticlib/libpanel.a is missing: run `rt staticlib panel` in the project's root first");
+        eprintln!("target/staticlib/libpanel.a is missing: run `tools/staticlib panel` in the project's root first");
         std::process::exit(1);
     }
     println!("cargo:rustc-link-search=native={}", folder.display());
