@@ -1,8 +1,8 @@
-// The public calls for C and Rust: include/gravyhelm.h declares them. Each is the engine's call of the same name, with the same answer on every input.
+// The public calls for C and Rust: include/gravyhelm.h declares them, and `panel_c` exports them. Each is the engine's call of the same name, with the same answer on every input.
 // Each contract cites the call's rows in the table of all calls, specs/Calls.antt: its answer, and what is lent to it at exit.
 // Positions, cursors and answers go by value, as plain data of which nothing is trusted. A slice is a pointer and a length. A yes or no that is given is a byte: 0 is no.
-// An exported function cannot return a reference: `list`, which hands back the front of the buffer itself, is for Rattle alone. For C `gravyhelm_list_into` gives how many
-// slots are that front.
+// C cannot be handed a reference: `list`, which hands back the front of the buffer itself, is for Rattle alone. For C `gravyhelm_list_into` gives how many slots are
+// that front.
 #![tactic(auto)]
 
 ghost use Rattle.std.specs.Prelude.{◌≡◌};
