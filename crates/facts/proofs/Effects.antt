@@ -14,7 +14,7 @@ use Rattle.rules.specs.Play.{raised, lowered, laid, lifted, drawn, uncovered}
 use Rattle.rules.specs.Fields.{with_deal, with_counts}
 use Rattle.rules.specs.Proper.{Shaped}
 use Rattle.rules.proofs.Facts.{Facts, sets}
-use Rattle.rules.proofs.Placed.{HeadOf, head_of}
+use Rattle.rules.proofs.Placed.{HeadOf, head_of_lem}
 use Rattle.facts.proofs.Foundation.{raised_has, lowered_has}
 use Rattle.facts.proofs.Shows.{laid_has, lifted_has}
 use Rattle.facts.proofs.Deck.{deck_list, deck_once, available_in, drawn_has}
@@ -89,7 +89,7 @@ module _ (p : Position) (s : Shaped p) (f : Facts p) (c : ℕ) (lc : c < 52) whe
   -- the head c of its pile goes, from a position r with p's deal and counts
   module _ (r : Position) (d : r.deal ≡ p.deal) (n : r.counts ≡ p.counts) (h : is_head p c ≡ true) where
     pub from : HeadOf p f.deal f.numbers.counts c
-    from = head_of p f.deal f.numbers.counts c h
+    from = head_of_lem p f.deal f.numbers.counts c h
 
     pub gone : Fewer p (uncovered r (pile_of p c)) (pile_of p c)
     gone =

@@ -20,7 +20,7 @@ use Rattle.rules.specs.Play.{lowered, laid, lifted, put_back, covered, before, a
 use Rattle.bits.proofs.Searches.{and_left, and_both, first_least, is_false}
 use Rattle.rules.proofs.Facts.{Facts, facts_of as facts}
 use Rattle.facts.proofs.DealKept.{pile_of_deal}
-use Rattle.rules.proofs.Placed.{HeadOf, head_of}
+use Rattle.rules.proofs.Placed.{HeadOf, head_of_lem}
 use Rattle.facts.proofs.TurnedBack.{back_stays}
 use Rattle.facts.proofs.UndoTest.{passes}
 use Rattle.play.specs.Made.{left_pile, has_way}
@@ -49,7 +49,7 @@ module _ (p r : Position) (c : ℕ) (d : r.deal ≡ p.deal) (n : r.counts ≡ p.
   unfolding left_pile bare_pile
   had_left h t =
       let f : Facts q = facts q h in
-      let w : HeadOf q f.deal f.numbers.counts c = head_of q f.deal f.numbers.counts c t in
+      let w : HeadOf q f.deal f.numbers.counts c = head_of_lem q f.deal f.numbers.counts c t in
       let i : ℕ = pile_of p c in
       let l : i < 7 = subst (λ (j : ℕ). j < 7) pile w.is_pile in
       let m : count q i ≡ count p i + 1 = more l in
