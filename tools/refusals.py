@@ -13,7 +13,7 @@ edits = LINE.findall(open(sys.argv[1]).read())
 
 def place(text):
     at = re.match(r"(?:note: )?(?:\./)?(\S+?:\d+:\d+):", text)
-    return at[1].removeprefix("proofs/").replace("/Proof.antt", "").removeprefix("src/") if at else ""
+    return at[1].removeprefix("proofs/").replace("/Proof.antt", "").replace("/Answers.antt", "").removeprefix("src/") if at else ""
 
 
 rows = [f"| {crate}/{edit} | {place(text)}{LESS[less]} |" for crate, edit, less, text in edits]

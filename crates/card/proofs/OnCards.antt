@@ -1,9 +1,8 @@
 -- Computed tests that the card rule of specs/Cards.antt says what document 01 says of cards, and that on the cards 0 to 51 each method answers by it.
 -- Assumes nothing.
-use Rattle.std.proofs.Common.{◌≡◌, ◌+◌, true, not, ◌&&◌, eqb, refl}
+use Rattle.std.proofs.Common.{◌≡◌, ◌+◌, true, not, ◌&&◌, eqb, refl, None}
 use mathlib.Core.Bool.{beq}
 use Rattle.bits.specs.Bit.{all_of}
-use Rattle.card.specs.declared.Maybe.TheVariants.{Nothing}
 use Rattle.card.specs.Cards.{flipped, card_of, rank, suit, colour, pair, partner, higher, lies_on, is_king}
 use Rattle.card.specs.Methods.{number_of, king_or_fake, twin, above, below, goes_after}
 
@@ -31,7 +30,7 @@ pub made : all_of 13 (λ r. all_of 4 (λ s. eqb (number_of r s) (card_of r s))) 
 unfolding all_of flipped card_of number_of
 made = refl
 
-pub kings : all_of 52 (λ c. beq (king_or_fake c) (is_king c) && beq (goes_after c Nothing) (is_king c)) ≡ true
+pub kings : all_of 52 (λ c. beq (king_or_fake c) (is_king c) && beq (goes_after c None) (is_king c)) ≡ true
 unfolding all_of rank is_king king_or_fake goes_after
 kings = refl
 

@@ -1,7 +1,10 @@
 -- A card's suit is one of four and its colour one of two; no card has another.
 -- Assumes nothing.
-use Rattle.std.proofs.Common.{◌≡◌, ℕ, ◌%◌, ◌<◌, ◌≤◌, Bool, true, false, cond, eqb, sym, ◌∙◌, arith, pow_pos, ne_eqb}
+use Rattle.std.proofs.Common.{◌≡◌, ℕ, ◌%◌, ◌<◌, ◌≤◌, Bool, true, false, cond, eqb, sym, ◌∙◌, arith, pow_pos, ne_eqb, List, T, length, get_or, ⊎_elim}
 use Rattle.bits.specs.Bit.{mask_of}
+use Rattle.std.proofs.lemmas.List.{get_or_past}
+use Rattle.std.proofs.lemmas.Bool.{cases_lt}
+use Rattle.bits.proofs.Tables.{entries, below}
 use Rattle.bits.proofs.Laws.{mask_is, bit_none}
 use Rattle.card.specs.Cards.{flipped, rank, suit, colour}
 
@@ -27,3 +30,7 @@ none_there f n s low h = none_so (λ c. eqb (f c) s) (λ c l. ne_eqb (f c) s (λ
 
 pub none_at : (s : ℕ) → 64 ≤ s → 0 ≡ mask_of 64 (λ c. eqb c s)
 none_at s h = none_so (λ c. eqb c s) (λ c l. ne_eqb c s (λ e. omega (arith, e)))
+
+-- a table with the rule's values, where the rule gives none past it
+pub table_is : (xs : List ℕ) (rule : ℕ → ℕ) → T (below (length xs) (λ k. eqb (get_or xs k 0) (rule k))) → ((s : ℕ) → length xs ≤ s → 0 ≡ rule s) → (s : ℕ) → get_or xs s 0 ≡ rule s
+table_is xs rule same past s = ⊎_elim (λ l. entries xs rule same s l) (λ h. get_or_past xs s 0 h ∙ past s h) (cases_lt s (length xs))

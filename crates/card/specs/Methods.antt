@@ -1,10 +1,9 @@
 -- What the methods of a card answer, on every byte. Document 01's words are in Cards; these are the source's.
 -- Assumes nothing.
-use Rattle.std.specs.Prelude.{ℕ, ◌+◌, ◌-◌, ◌/◌, ◌%◌, min, Bool, cond, nat_le, nat_lt}
+use Rattle.std.specs.Prelude.{ℕ, ◌+◌, ◌-◌, ◌/◌, ◌%◌, min, Bool, cond, nat_le, nat_lt, Option, Some, None}
 use Rattle.bits.specs.Bit.{bit, first_of}
 use Rattle.card.specs.declared.Split.{Split}
-use Rattle.card.specs.declared.Maybe.{Maybe}
-use Rattle.card.specs.declared.Maybe.TheVariants.{Nothing, Card as Just}
+use Rattle.card.specs.declared.Card.{Card}
 use Rattle.card.specs.Cards.{card_of, rank, suit, lies_on}
 
 -- the number of rank r and suit s: card_of r s, where s is a suit and r is below 64. A suit above 3 carries into the rank, and the rank wraps at 64
@@ -31,10 +30,10 @@ unfoldable pub below : ℕ → ℕ
 below c = c - 4
 
 -- c goes on what lies there: it lies on a card; a king or a fake card goes where nothing lies
-unfoldable pub goes_after : ℕ → Maybe → Bool
-goes_after c Nothing = king_or_fake c
-goes_after c (Just d) = lies_on c d.0
+unfoldable pub goes_after : ℕ → Option Card → Bool
+goes_after c None = king_or_fake c
+goes_after c (Some d) = lies_on c d.0
 
 -- the lowest card of a mask, if that is one of the 52
-unfoldable pub first_card : ℕ → Maybe
-first_card m = cond (nat_lt (first_of 64 (bit m)) 52) (Just (record { 0 = first_of 64 (bit m) })) Nothing
+unfoldable pub first_card : ℕ → Option Card
+first_card m = cond (nat_lt (first_of 64 (bit m)) 52) (Some (record { 0 = first_of 64 (bit m) })) None

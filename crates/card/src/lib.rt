@@ -66,27 +66,18 @@ const SUITS: u8 = N_SUITS as u8;
 const KING_RANK: u8 = N_RANKS as u8 - 1;
 
 // A card number. The cards are 0 to 51; every method answers on every byte.
-#[derive(Clone, Copy)]
+#[derive(Clone, Copy, Debug, PartialEq, Eq)]
 pub struct Card(pub u8);
 
-// The largest byte.
-const TOP: u8 = 255;
-
-// The source's Option<Card>.
-#[derive(Clone, Copy)]
-pub enum Maybe {
-    Nothing,
-    Card(Card),
-}
-
 // A rank and a suit.
-#[derive(Clone, Copy)]
+#[derive(Clone, Copy, Debug, PartialEq, Eq)]
 pub struct Split {
     pub rank: u8,
     pub suit: u8,
 }
 
 // 2 of the suit is flipped on odd ranks: once to make a number, once more to undo it.
+#[tactic(auto, using(crate::proofs::Bytes::flip_is))]
 fn suit_xor_color(v: u8) -> u8
     ensures { result ≡ card_of (v / 4) (v % 4) }
 {
@@ -99,13 +90,15 @@ impl Card {
     pub const INVALID: Card = Card(54);
 
     // A suit above 3 carries into the rank, and the number wraps at 256.
+    #[tactic(auto, unfolding(crate::specs::Methods::number_of))]
     pub fn new(rank: u8, suit: u8) -> Self
         ensures { result.0 ≡ number_of rank suit }
     {
-        let value = std::num::wrapping_add_u8((rank % 64) * SUITS, suit);
+        let value = ((rank % 64) * SUITS).wrapping_add(suit);
         Card(suit_xor_color(value))
     }
 
+    #[tactic(auto, unfolding(crate::specs::Cards::rank))]
     pub fn rank(self) -> u8
         ensures { result ≡ rank_of self.0 }
     {
@@ -113,18 +106,21 @@ impl Card {
     }
 
     // A king or a fake card: also of each number above the cards.
+    #[tactic(auto, unfolding(crate::specs::Methods::king_or_fake))]
     pub fn is_king(self) -> bool
         ensures { result ≡ king_or_fake self.0 }
     {
         self.rank() >= KING_RANK
     }
 
+    #[tactic(auto, using(crate::proofs::Suits::suit_low), unfolding(crate::specs::Cards::card_of, crate::specs::Cards::suit, crate::specs::Cards::rank))]
     pub fn suit(self) -> u8
         ensures { result ≡ suit_of self.0 }
     {
         suit_xor_color(self.0) % SUITS
     }
 
+    #[tactic(auto, unfolding(crate::specs::Methods::split_of))]
     pub fn split(self) -> Split
         ensures { result ≡ split_of self.0 }
     {
@@ -135,6 +131,7 @@ impl Card {
     }
 
     // The other card of the pair.
+    #[tactic(auto, using(crate::proofs::Bytes::partner_is))]
     pub fn swap_suit(self) -> Self
         ensures { result.0 ≡ partner self.0 }
     {
@@ -142,6 +139,7 @@ impl Card {
     }
 
     // The card of the same rank in the other pair.
+    #[tactic(auto, using(crate::proofs::Bytes::twin_is))]
     pub fn swap_color(self) -> Self
         ensures { result.0 ≡ twin self.0 }
     {
@@ -149,32 +147,29 @@ impl Card {
     }
 
     // Stops at 255.
+    #[tactic(auto, unfolding(crate::specs::Methods::above))]
     pub fn increase_rank_swap_color(self) -> Self
         ensures { result.0 ≡ above self.0 }
     {
-        if self.0 < TOP - SUITS {
-            return Card(self.0 + SUITS);
-        }
-        Card(TOP)
+        Card(self.0.saturating_add(SUITS))
     }
 
     // Stops at 0.
+    #[tactic(auto, unfolding(crate::specs::Methods::below))]
     pub fn reduce_rank_swap_color(self) -> Self
         ensures { result.0 ≡ below self.0 }
     {
-        if SUITS < self.0 {
-            return Card(self.0 - SUITS);
-        }
-        Card(0)
+        Card(self.0.saturating_sub(SUITS))
     }
 
     // The card lies on the other: the sum is taken in 16 bits, so that it never wraps. On an empty pile goes a king.
-    pub fn go_after(self, other: Maybe) -> bool
+    #[tactic(auto, using(crate::proofs::Bytes::lies_is), unfolding(crate::specs::Methods::goes_after))]
+    pub fn go_after(self, other: Option<Card>) -> bool
         ensures { result ≡ goes_after self.0 other }
     {
         match other {
-            Maybe::Card(under) => ((self.0 as u16 + SUITS as u16) ^ under.0 as u16) < 2,
-            Maybe::Nothing => self.is_king(),
+            Some(under) => ((self.0 as u16 + SUITS as u16) ^ under.0 as u16) < 2,
+            None => self.is_king(),
         }
     }
 
@@ -195,20 +190,23 @@ impl Card {
         ensures { result ≡ mask_of 64 (λ k. nat_eq k self.0) }
     {
         if self.0 < 64 {
-            return bits::card_mask(self.0 as u32);
+            bits::card_mask(self.0 as u32)
+        } else {
+            0
         }
-        0
     }
 
     // The lowest card of a mask, if that is one of the 52.
-    pub fn from_mask(v: u64) -> Maybe
+    #[tactic(auto, unfolding(crate::specs::Methods::first_card))]
+    pub fn from_mask(v: u64) -> Option<Card>
         ensures { result ≡ first_card v }
     {
         let lowest = bits::lowest_card(v);
         if lowest < N_CARDS as u32 {
-            return Maybe::Card(Card(lowest as u8));
+            Some(Card(lowest as u8))
+        } else {
+            None
         }
-        Maybe::Nothing
     }
 }
 
@@ -241,20 +239,14 @@ pub fn constants() -> Tied
 pub fn suit_mask(suit: usize) -> u64
     ensures { result ≡ suit_mask suit }
 {
-    if suit < N_SUITS {
-        return SUIT_MASK[suit];
-    }
-    0
+    SUIT_MASK.get(suit).copied().unwrap_or(0)
 }
 
 // The cards of a colour; of a number above 1, none.
 pub fn colour_mask(colour: usize) -> u64
     ensures { result ≡ colour_mask colour }
 {
-    if colour < 2 {
-        return COLOR_MASK[colour];
-    }
-    0
+    COLOR_MASK.get(colour).copied().unwrap_or(0)
 }
 
 // The place in the deal where a pile starts.
@@ -266,15 +258,14 @@ pub fn pile_start(pile: usize) -> u8
 }
 
 // The cards at the n places from start on, each byte modulo 64.
+// Kept: start and n stand beside the slice, as the definition `cards_from` and each caller's contract count the places of the whole deal.
 pub fn cards_from(cards: &[u8], start: usize, n: usize) -> u64
     requires { start + n ≤ length cards.now }
     ensures { result ≡ cards_from cards.now start n }
 {
     let mut mask: u64 = 0;
-    let mut k: usize = 0;
-    while k < n {
-        mask |= 1u64 << (cards[start + k] & 63);
-        k += 1;
+    for card in &cards[start..start + n] {
+        mask |= 1u64 << (*card & 63);
     }
     mask
 }

@@ -20,7 +20,7 @@ use Rattle.rules.specs.Answers.{overlaps}
 use Rattle.bits.proofs.Searches.{any_ext}
 use Rattle.rules.proofs.ProperLaw.{locked_is}
 use Rattle.proper.specs.Tests.{pairs_fit}
-use Rattle.proper.proofs.Judge.{pairs_were, seven_was}
+use Rattle.proper.proofs.Judgement.{pairs_were, seven_was}
 use Rattle.bits.proofs.Full.{ones_mask}
 use Rattle.proper.proofs.Tricks.{empty_mask}
 use Rattle.code.specs.declared.Sets.{Sets}

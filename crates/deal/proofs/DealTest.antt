@@ -18,7 +18,7 @@ use Rattle.proper.proofs.DealRight.{deal_is, small_of}
 use Rattle.rules.proofs.DealLaw.{cards_low}
 use Rattle.proper.proofs.Sets.{cards_are}
 
-abbrev Small : List ℕ → Bool
+abbrev pub Small : List ℕ → Bool
 Small d = all_of 52 (λ k. ltb (get_or d k 0) 64)
 
 module _ (d : List ℕ) where

@@ -1,4 +1,3 @@
-pub mod Copies
 pub mod DealTest
 pub mod FreshMade
 pub mod Answered

@@ -5,10 +5,6 @@ use Rattle.rules.specs.declared.Started.{Started}
 use Rattle.rules.specs.Fields.{blank}
 use Rattle.rules.specs.Refusals.{accepted}
 
--- refused: "A fresh deal or resume has no given position and returns the blank one"
-unfoldable pub refused_by : ℕ → Started
-refused_by n = record { refusal = n; position = blank }
-
--- the position p, unless there is a refusal r
+-- the position p, unless there is a refusal r: "A fresh deal or resume has no given position and returns the blank one"
 abbrev pub started_by : ℕ → Position → Started
 started_by r p = accepted r (record { refusal = 0; position = p }) (record { refusal = r; position = blank })

@@ -1,17 +1,17 @@
 // A fresh deal: the refusals of what is dealt, the position, and the blank one that a refused call returns.
 #![tactic(auto)]
 
-ghost use Rattle.std.specs.Prelude.{◌≡◌, length, take, drop};
+ghost use Rattle.std.specs.Prelude.{◌≡◌, take, drop, IfOk};
 ghost use Rattle.rules.specs.Hidden.{CardsFit};
 ghost use Rattle.rules.specs.Fields.{blank as blank_one};
 ghost use Rattle.rules.specs.Code.{fresh as fresh_of};
 ghost use Rattle.rules.specs.Answers.{deal_refusal, deal_answer};
-ghost use Rattle.deal.specs.Starts.{refused_by};
+ghost use Rattle.rules.specs.Results.{refusal_of, started_of};
 
 use card::{N_CARDS, N_DECK_CARDS, N_PILE_CARDS, N_PILES, N_SUITS};
-use rules::{Position, Started};
+use rules::{Position, Refusal};
 
-// The position that a refused deal or resume returns: all numbers 0.
+// The position that stands in the plain answer of a refused deal or resume: all numbers 0.
 pub fn blank() -> Position
     ensures { result ≡ blank_one }
 {
@@ -27,64 +27,37 @@ pub fn blank() -> Position
     }
 }
 
-pub fn refused(number: u8) -> Started
-    ensures { result ≡ refused_by number }
-{
-    Started {
-        refusal: number,
-        position: blank(),
-    }
-}
-
-// Refusals 1 to 4. A byte of 64 or more shows in the OR of all bytes, one of 52 to 63 above the mask's 52 bits;
+// The deal's cards, or refusals 1 to 4. A byte of 64 or more shows in the OR of all bytes, one of 52 to 63 above the mask's 52 bits;
 // then a card is there twice where another is missing.
-pub fn deal_refusal(step: u8, cards: &[u8]) -> u8
-    ensures { result ≡ deal_refusal cards.now step }
+pub fn judge(step: u8, cards: &[u8]) -> Result<[u8; 52], Refusal>
+    ensures refusal { refusal_of result ≡ deal_refusal cards.now step }
+    ensures cards { IfOk result (λ dealt. dealt ≡ cards.now) }
 {
     if !deck::is_step(step) {
-        return rules::WRONG_STEP;
+        return Err(Refusal::WrongStep);
     }
-    if cards.len() != N_CARDS {
-        return rules::WRONG_LENGTH;
+    let Ok(deal) = <[u8; N_CARDS]>::try_from(cards) else {
+        return Err(Refusal::WrongLength);
+    };
+    if !proper::all_small(&deal) {
+        return Err(Refusal::NoCard);
     }
-    if !proper::all_small(cards) {
-        return rules::NO_CARD;
-    }
-    let seen = card::cards_from(cards, 0, N_CARDS);
+    let seen = card::cards_from(&deal, 0, N_CARDS);
     if seen > card::FULL_MASK {
-        return rules::NO_CARD;
+        return Err(Refusal::NoCard);
     }
     if seen != card::FULL_MASK {
-        return rules::SAME_CARD;
+        return Err(Refusal::SameCard);
     }
-    rules::ACCEPTED
-}
-
-// The 52 bytes as an array.
-pub fn as_deal(cards: &[u8]) -> [u8; 52]
-    requires { length cards.now ≡ 52 }
-    ensures { result ≡ cards.now }
-{
-    let mut deal = [0u8; N_CARDS];
-    let mut k: usize = 0;
-    while k < N_CARDS {
-        deal[k] = cards[k];
-        k += 1;
-    }
-    deal
+    Ok(deal)
 }
 
 // The last 24 cards of a deal.
-fn stock(cards: &[u8]) -> [u8; 24]
-    requires { length cards.now ≡ 52 }
+fn stock(cards: &[u8; 52]) -> [u8; 24]
     ensures { result ≡ take 24 (drop 28 cards.now) }
 {
     let mut deck = [0u8; N_DECK_CARDS];
-    let mut k: usize = 0;
-    while k < N_DECK_CARDS {
-        deck[k] = cards[N_PILE_CARDS + k];
-        k += 1;
-    }
+    deck.copy_from_slice(&cards[N_PILE_CARDS..]);
     deck
 }
 
@@ -95,9 +68,9 @@ pub fn fresh(step: u8, deal: [u8; 52]) -> Position
 {
     let counts = [1u8, 2, 3, 4, 5, 6, 7];
     Position {
-        deal: deal,
-        step: step,
-        counts: counts,
+        deal,
+        step,
+        counts,
         heights: [0u8; N_SUITS],
         deck: stock(&deal),
         left: card::FULL_DECK,
@@ -106,16 +79,9 @@ pub fn fresh(step: u8, deal: [u8; 52]) -> Position
     }
 }
 
-// The public deal: a fresh position, or the refusal and the blank one.
-pub fn deal(step: u8, cards: &[u8]) -> Started
-    ensures { result ≡ deal_answer cards.now step }
+// The public deal: a fresh position.
+pub fn deal(step: u8, cards: &[u8]) -> Result<Position, Refusal>
+    ensures { started_of result ≡ deal_answer cards.now step }
 {
-    let wrong = deal_refusal(step, cards);
-    if wrong != rules::ACCEPTED {
-        return refused(wrong);
-    }
-    Started {
-        refusal: rules::ACCEPTED,
-        position: fresh(step, as_deal(cards)),
-    }
+    Ok(fresh(step, judge(step, cards)?))
 }

@@ -8,7 +8,8 @@ use native.Mathlib.Nat.{mod-eq_of_lt, le_of_suc-le-suc, not-suc-le-zero, zero-ad
 use native.Mathlib.Numerals.{add-one, one-add}
 use native.Mathlib.Omega.{arith}
 use lib.Bits.{bit_and, bit_or, or_shifted}
-use lib.ListN.{length, get_or, length-map}
+use lib.ListN.{length, get_or, take, drop, length-map}
+use lib.Seq.{get_or-take, get_or-drop}
 use lib.Pow.{pow_mono}
 use Rattle.bits.specs.Bit.{bit}
 use Rattle.bits.proofs.Laws.{num_le, mask_lt, mask_ext, has_shr}
@@ -19,6 +20,10 @@ use Rattle.rules.specs.Places.{stock_card, is_buried, is_visible, in_deck, on_fo
 use Rattle.bits.proofs.Searches.{count_snoc}
 use Rattle.rules.proofs.Facts.{Facts, sets}
 use Rattle.rules.proofs.Placed.{stock_buried}
+
+-- the cards of the deal from place 28 on
+pub item_at : (d : List ℕ) (n k : ℕ) → k < n → get_or (take n (drop 28 d)) k 0 ≡ get_or d (28 + k) 0
+item_at d n k l = get_or-take n (drop 28 d) k 0 l ∙ get_or-drop 28 d k 0
 
 -- ---- written
 

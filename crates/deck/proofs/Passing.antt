@@ -17,17 +17,11 @@ use Rattle.rules.specs.Bits.{num, any_of, count_of, first_of}
 use Rattle.rules.specs.Places.{in_deck}
 use Rattle.rules.specs.Proper.{proper, deck_right, strike, in_order}
 use Rattle.rules.specs.Answers.{stock_place, find_place}
-use Rattle.bits.proofs.Searches.{and_left, and_right, and_both, any_yes, yes_any, first_yes, first_least, count_snoc, is_false}
+use Rattle.bits.proofs.Steps.{first_at}
+use Rattle.bits.proofs.Searches.{and_left, and_right, and_both, any_yes, yes_any, first_yes, count_snoc, is_false}
 use Rattle.rules.proofs.ProperLaw.{parts}
+use Rattle.rules.proofs.Shape.{Shape}
 use Rattle.rules.proofs.Facts.{facts, in_order_lem}
-
--- the first where the test passes; none passes it
-first_at : (n : ℕ) (f : ℕ → Bool) (k : ℕ) → k < n → f k ≡ true → ((j : ℕ) → j < k → f j ≡ true → ⊥) → first_of n f ≡ k
-first_at n f k l e none = go (ltb (first_of n f) k) refl
-  where
-    go : (b : Bool) → ltb (first_of n f) k ≡ b → first_of n f ≡ k
-    go true h = absurd (none (first_of n f) (ltb-true (first_of n f) k h) (first_yes n f (omega (arith, ltb-true (first_of n f) k h))))
-    go false h = omega (arith, first_least n f k l e, ltb-false (first_of n f) k h)
 
 -- `strike y xs` where y is not the first of xs
 strike_miss : (y : ℕ) (xs : List ℕ) → (0 < length xs → get_or xs 0 0 ≡ y → ⊥) → strike y xs ≡ xs
@@ -38,11 +32,6 @@ strike_miss y (x ∷ xs) h = ap (λ (b : Bool). cond b xs (x ∷ xs)) (ne_eqb x 
 strike_hit : (y : ℕ) (xs : List ℕ) → strike y (y ∷ xs) ≡ xs
 unfolding strike
 strike_hit y xs = ap (λ (b : Bool). cond b xs (y ∷ xs)) (eq-eqb y y refl)
-
--- a test as a number
-pub byte_le : (b : Bool) → bool_byte b ≤ 1
-byte_le true = omega arith
-byte_le false = omega arith
 
 -- at the place k, with `at` of the cards left passed
 abbrev pub next : List ℕ → List ℕ → ℕ → ℕ → ℕ → Bool
@@ -60,13 +49,13 @@ pub record Right (deal deck : List ℕ) (left : ℕ) : Type 0 where
   pub order : in_order (take left deck) (take 24 (drop 28 deal)) ≡ true
   pub apart : (j k : ℕ) → j < 24 → k < 24 → get_or deal (28 + j) 0 ≡ get_or deal (28 + k) 0 → j ≡ k
 
-pub right : (p : Position) → T (proper p) → length p.deal ≡ 52 → length p.deck ≡ 24 → Right p.deal p.deck p.left
+pub right : (p : Position) → T (proper p) → Shape p → Right p.deal p.deck p.left
 unfolding deck_right
-right p t long full =
+right p t h =
     let f = facts p t in
     record {
-      long = long;
-      full = full;
+      long = h.deal;
+      full = h.deck;
       fits = f.left;
       order = (parts p (T_true (proper p) t)).deck;
       apart = λ j k l m e. let s : 28 + j ≡ 28 + k = f.differ (28 + j) (28 + k) (omega arith) (omega arith) e in omega arith;
@@ -195,7 +184,7 @@ module _ (p : Position) (card : ℕ) where
   pub found_at : (k at : ℕ) → k < 24 → Walk p.deal p.deck p.left k at → Not-yet k → get_or p.deal (28 + k) 0 ≡ card → at ≡ find_place p card
   unfolding find_place stock_place in_deck test
   found_at k at l w none e =
-      let s : first_of 24 test ≡ k = first_at 24 test k l (eq-eqb (get_or p.deal (28 + k) 0) card e) (λ j i y. none j i (eqb-true (get_or p.deal (28 + j) 0) card y)) in
+      let s : first_of 24 test ≡ k = first_at 24 test k l (λ j i y. none j i (eqb-true (get_or p.deal (28 + j) 0) card y)) (eq-eqb (get_or p.deal (28 + k) 0) card e) in
       w.passed ∙ sym (rw (s, lt-ltb k 24 l) refl)
 
   -- it is at none

@@ -2,31 +2,25 @@
 -- Assumes nothing.
 use mathlib.Core.Path.{◌≡◌, sym, ap, ◌∙◌, subst}
 use Prim.Native.Nat.{ℕ, zero, suc, ◌+◌, ◌-◌, ◌*◌, ◌/◌, ◌%◌, ◌≤◌, ◌<◌, min, zero-le}
-use native.Mathlib.Nat.{suc-mul, zero-mul, mul_comm, div-add-mod', le-div_iff_mul-le, mod-lt}
+use Rattle.std.proofs.Math.Nat.{mul-le-mul_left}
+use Rattle.std.proofs.lemmas.Grind.{div_ceil_times}
+use Rattle.std.specs.Int.{div_ceil}
+use native.Mathlib.Nat.{suc-mul, zero-mul, mul_comm, div-add-mod', mod-lt}
 use native.Mathlib.Omega.{arith}
 use Rattle.rules.specs.Dealing.{deals}
 use Rattle.rules.proofs.DealsLaw.{dealt_end, dealt_on, deals_add}
 
 -- how many steps go into x, the last one begun counted
 abbrev pub ceil : ℕ → ℕ → ℕ
-ceil step x = (x + step - 1) / step
+ceil step x = div_ceil x step
 
 module _ (len step : ℕ) (sp : 0 < step) where
   -- a step fewer does not reach the end of x; all of them do
-  pub ceil_low : (n x : ℕ) → n ≤ ceil step x → step * n < x + step
-  ceil_low n x h =
-      let w : n * step ≤ x + step - 1 = (le-div_iff_mul-le sp).0 h in
-      omega (arith, mul_comm step n)
-
-  -- what whole rounds leave is no longer than a round
-  pub round_low : (w m : ℕ) → w ≡ ceil step len → step * (m % (w + 1)) < len + step
-  round_low w m e =
-      let r : ℕ = m % (w + 1) in
-      let low : r < w + 1 = mod-lt m (omega arith) in
-      ceil_low r len (subst (λ (x : ℕ). r ≤ x) e (omega arith))
+  ceil_low : (n x : ℕ) → n ≤ ceil step x → step * n < x + step
+  ceil_low n x h = omega (arith, mul-le-mul_left step h, mul_comm step (ceil step x), (div_ceil_times x step sp).1)
 
   ceil_high : (x : ℕ) → x ≤ ceil step x * step
-  ceil_high x = omega (arith, div-add-mod' (x + step - 1) step, mod-lt (x + step - 1) sp)
+  ceil_high x = (div_ceil_times x step sp).0
 
   -- deals that begin before the end, or at it with none
   on : (n o : ℕ) → o ≤ len → o + n * step < len + step → deals len step n o ≡ min (o + n * step) len

@@ -1,31 +1,25 @@
 // Dealing: the offset after one deal and after many, on bare numbers and on a cursor that is given or lent. Crate `deck` passes these names on.
+// Kept: length, step and offset as three numbers. Callers hold them as fields of a Position, and would build a Cursor for one call.
 #![tactic(auto)]
 
 ghost use Rattle.std.specs.Prelude.{◌≡◌, ◌<◌, ◌≤◌, ◌+◌, ◌-◌, ◌/◌};
 ghost use Rattle.rules.specs.Proper.{step_right};
-ghost use Rattle.rules.specs.Dealing.{dealt, deals, cursor_of, pure_at};
+ghost use Rattle.rules.specs.Dealing.{dealt, deals, pure_at};
 ghost use Rattle.rules.specs.Answers.{cursor_refusal, deal_once_answer};
 ghost use Rattle.rules.specs.Code.{stored_offset};
+ghost use Rattle.rules.specs.Results.{refusal_of, dealt_of};
 
-use bits::min;
-use rules::{Cursor, DealtOnce};
+use rules::{Cursor, Refusal};
 
 // A deal turns at most as many cards as the deck has.
 const MAX_STEP: u8 = card::FULL_DECK;
 
 // "step 1 to 24".
+#[tactic(auto, unfolding(rules::specs::Proper::step_right))]
 pub fn is_step(step: u8) -> bool
     ensures { result ≡ step_right step }
 {
-    (0 < step) & (step <= MAX_STEP)
-}
-
-// How many steps go into x, the last one begun counted.
-fn div_ceil(x: u8, step: u8) -> u8
-    requires { (x ≤ 24) × (0 < step) × (step ≤ 24) }
-    ensures { result ≡ (x + step - 1) / step }
-{
-    (x + step - 1) / step
+    (1..=MAX_STEP).contains(&step)
 }
 
 // The offset after a deal.
@@ -34,10 +28,7 @@ pub fn offset_once(len: u8, step: u8, cur: u8) -> u8
     requires { (len ≤ 24) × (step ≤ 24) }
     ensures { result ≡ dealt len step cur }
 {
-    if len <= cur {
-        return 0;
-    }
-    min(cur + step, len)
+    if len <= cur { 0 } else { (cur + step).min(len) }
 }
 
 // The offset after n deals: those to the end, one to the front, and what is left of them after whole rounds.
@@ -45,12 +36,13 @@ pub fn offset(len: u8, step: u8, cur: u8, n: u8) -> u8
     requires { (len ≤ 24) × (0 < step) × (step ≤ 24) × (cur ≤ len) }
     ensures { result ≡ deals len step n cur }
 {
-    let to_end = div_ceil(len - cur, step);
+    let to_end = (len - cur).div_ceil(step);
     if n <= to_end {
-        return min(cur + step * n, len);
+        (cur + step * n).min(len)
+    } else {
+        let round = len.div_ceil(step) + 1;
+        (step * ((n - to_end - 1) % round)).min(len)
     }
-    let round = div_ceil(len, step) + 1;
-    min(step * ((n - to_end - 1) % round), len)
 }
 
 // Deals come round to this offset again.
@@ -58,13 +50,11 @@ pub fn is_pure(len: u8, step: u8, cur: u8) -> bool
     requires { 0 < step }
     ensures { result ≡ pure_at len step cur }
 {
-    if cur % step == 0 {
-        return true;
-    }
-    cur == len
+    cur % step == 0 || cur == len
 }
 
 // The offset as the code stores it.
+#[tactic(auto, unfolding(rules::specs::Code::stored_offset))]
 pub fn normalized_offset(len: u8, step: u8, cur: u8) -> u8
     requires { 0 < step }
     ensures { result ≡ stored_offset len step cur }
@@ -72,49 +62,34 @@ pub fn normalized_offset(len: u8, step: u8, cur: u8) -> u8
     if is_pure(len, step, cur) { len } else { cur }
 }
 
-// The number given when saying no to a cursor.
-fn refusal(len: u8, step: u8, cur: u8) -> u8
-    ensures { result ≡ cursor_refusal (cursor_of len step cur) }
+// Whether a cursor is one: its step is a step, its length a deck's, its offset none past its length.
+fn judge(c: Cursor) -> Result<(), Refusal>
+    ensures { refusal_of result ≡ cursor_refusal c }
 {
-    if !is_step(step) {
-        return rules::WRONG_STEP;
+    if !is_step(c.step) {
+        return Err(Refusal::WrongStep);
     }
-    if card::FULL_DECK < len {
-        return rules::NOT_PROPER;
+    if c.len > card::FULL_DECK || c.offset > c.len {
+        return Err(Refusal::NotProper);
     }
-    if len < cur {
-        return rules::NOT_PROPER;
-    }
-    rules::ACCEPTED
+    Ok(())
 }
 
-// A deal on a cursor, which stays where it is refused.
-pub fn deal_once(c: Cursor) -> DealtOnce
-    ensures { result ≡ deal_once_answer c }
+// A deal on a cursor.
+pub fn deal_once(c: Cursor) -> Result<Cursor, Refusal>
+    ensures { dealt_of c result ≡ deal_once_answer c }
 {
-    let len = c.len;
-    let step = c.step;
-    let cur = c.offset;
-    let no = refusal(len, step, cur);
-    let mut to = cur;
-    if no == rules::ACCEPTED {
-        to = offset_once(len, step, cur);
-    }
-    DealtOnce {
-        refusal: no,
-        cursor: Cursor {
-            len: len,
-            step: step,
-            offset: to,
-        },
-    }
+    judge(c)?;
+    Ok(Cursor {
+        offset: offset_once(c.len, c.step, c.offset),
+        ..c
+    })
 }
 
-// The same on a lent cursor, which it changes itself: the answer is the number alone.
-pub fn deal_once_lent(c: &mut Cursor) -> u8
-    ensures { (result ≡ cursor_refusal c.old) × (c.new ≡ (deal_once_answer c.old).cursor) }
+// The same on a lent cursor, which it changes itself. Refused, the cursor stays.
+pub fn deal_once_lent(c: &mut Cursor) -> Result<(), Refusal>
+    ensures { (refusal_of result ≡ cursor_refusal c.old) × (c.new ≡ (deal_once_answer c.old).cursor) }
 {
-    let got = deal_once(*c);
-    *c = got.cursor;
-    got.refusal
+    *c = deal_once(*c)?;
+    Ok(())
 }

@@ -1,5 +1,5 @@
-// The deck's 24 slots, of which the first `left` hold the cards left: an array and a length in the place of ArrayVec. A card goes out at a place and in at one.
-// Crate `deck` passes these names on.
+// The deck's 24 slots, of which the first `left` hold the cards left. A card goes out at a place and in at one. Crate `deck` passes these names on.
+// Kept: an array and a length side by side, since `rules::Position` holds them as two fields and crosses to C, and no heap is used.
 #![tactic(auto)]
 
 ghost use Rattle.std.specs.Prelude.{◌≡◌, ◌<◌, ◌≤◌, ◌+◌, eqb, length, get_or, take, drop};
@@ -25,19 +25,14 @@ pub fn cards(deck: [u8; 24], left: u8) -> [u8; 24]
     out
 }
 
+// Kept: no Option, which would be no plainer: the one caller draws a card that is in the deck, and would have to unwrap it.
 // The first of the cards left that is the card, and `left` where none is. A card that is still in the deck is found sooner than by its place in the deal.
 pub fn place_of(deck: [u8; 24], left: u8, card: u8) -> u8
     requires { left ≤ 24 }
     ensures { result ≡ first_of left (λ k. eqb (get_or deck k 0) card) }
 {
-    let mut at: u8 = 0;
-    while at < left {
-        if deck[at as usize] == card {
-            return at;
-        }
-        at += 1;
-    }
-    at
+    let found = deck[..left as usize].iter().position(|c| *c == card);
+    found.unwrap_or(left as usize) as u8
 }
 
 // The card at the place goes, and those after it move down. Spare slots are 0.

@@ -1,82 +1,50 @@
 // The public calls. Here are those that begin, save and compare a game; the others are in the parts, whose names are passed on, so that this crate has every public call:
 // `engine_history` takes a game on and back, `engine_lists` tells the moves, `engine_table` the foundations and piles, `engine_deck` the deck.
-// Each judges its own input, asks nothing of its caller, and refuses by document 01's numbers, in its order.
-// A refused call hands back the position it was given and leaves lent memory as it was. `list` is the exception, by the language: it hands back the front of
+// Each judges its own input, asks nothing of its caller, and refuses in the document's order: an `Err` has the reason. Each contract says that the Result, told as the plain
+// answer that crosses to C, is the call's answer. A refused call leaves lent memory as it was. `list` is the exception, by the language: it hands back the front of
 // its buffer, and what the buffer holds later is said by `list_into`, which it calls.
 #![tactic(auto)]
 
-ghost use Rattle.std.specs.Prelude.{◌≡◌, false};
+ghost use Rattle.std.specs.Prelude.{◌≡◌};
 ghost use Rattle.rules.specs.Answers.{deal_answer, resume_answer, save_answer, ladder_answer};
+ghost use Rattle.rules.specs.Results.{started_of, saved_of, compared_of};
 
 pub use engine_deck::{deck, find, offset};
 pub use engine_history::{do_move, undo_move};
 pub use engine_lists::{list, list_count, list_into, masks, test};
 pub use engine_table::{PILE_BYTES, heights, is_sure_win, is_win, piles};
-use rules::{ACCEPTED, Compared, Position, Saved, Started};
+use rules::{Position, Refusal};
 
-// A fresh deal of 52 cards. Refused, the blank position.
-pub fn deal(step: u8, cards: &[u8]) -> Started
-    ensures { result ≡ deal_answer cards.now step }
+// A fresh deal of 52 cards.
+pub fn deal(step: u8, cards: &[u8]) -> Result<Position, Refusal>
+    ensures { started_of result ≡ deal_answer cards.now step }
 {
     deal::deal(step, cards)
 }
 
-// The position of a deal that a save code stands for. Refused, the blank position.
-pub fn resume(step: u8, cards: &[u8], code: u64) -> Started
-    ensures { result ≡ resume_answer cards.now step code }
+// The position of a deal that a save code stands for.
+pub fn resume(step: u8, cards: &[u8], code: u64) -> Result<Position, Refusal>
+    ensures { started_of result ≡ resume_answer cards.now step code }
 {
     code::resume(step, cards, code)
 }
 
 // The save code.
-pub fn save(p: Position) -> Saved
-    ensures { result ≡ save_answer p }
+pub fn save(p: Position) -> Result<u64, Refusal>
+    ensures { saved_of p result ≡ save_answer p }
 {
-    if !proper::is_proper(p) {
-        return Saved {
-            refusal: rules::NOT_PROPER,
-            position: p,
-            code: 0,
-        };
-    }
-    Saved {
-        refusal: ACCEPTED,
-        position: p,
-        code: code::encode(p),
-    }
+    let judged = proper::judge(p)?;
+    Ok(code::encode(judged))
 }
 
 // Whether two positions are the same on the ladder: of one deal and step, with one code.
-pub fn ladder(p: Position, q: Position) -> Compared
-    ensures { result ≡ ladder_answer p q }
+pub fn ladder(p: Position, q: Position) -> Result<bool, Refusal>
+    ensures { compared_of p q result ≡ ladder_answer p q }
 {
-    if !proper::is_proper(p) {
-        return unranked(rules::NOT_PROPER, p, q);
+    let first = proper::judge(p)?;
+    let second = proper::judge(q)?;
+    if !play::same_deal(p, q) || p.step != q.step {
+        return Ok(false);
     }
-    if !proper::is_proper(q) {
-        return unranked(rules::NOT_PROPER, p, q);
-    }
-    if !play::same_deal(p, q) {
-        return unranked(ACCEPTED, p, q);
-    }
-    if p.step != q.step {
-        return unranked(ACCEPTED, p, q);
-    }
-    Compared {
-        refusal: ACCEPTED,
-        first: p,
-        second: q,
-        same: code::encode(p) == code::encode(q),
-    }
-}
-
-fn unranked(refusal: u8, p: Position, q: Position) -> Compared
-    ensures { result ≡ record { refusal = refusal; first = p; second = q; same = false } }
-{
-    Compared {
-        refusal: refusal,
-        first: p,
-        second: q,
-        same: false,
-    }
+    Ok(code::encode(first) == code::encode(second))
 }

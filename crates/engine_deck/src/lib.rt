@@ -3,75 +3,38 @@
 
 ghost use Rattle.std.specs.Prelude.{◌≡◌};
 ghost use Rattle.rules.specs.Answers.{deck_answer, find_answer, offset_answer};
+ghost use Rattle.rules.specs.Results.{view_of, located_of, offset_of};
 
-use rules::{ACCEPTED, DeckView, Located, Offset, Position};
+use rules::{DeckLeft, Found, Position, Refusal};
 
 // The deck cards left, and the offset.
-pub fn deck(p: Position) -> DeckView
-    ensures { result ≡ deck_answer p }
+pub fn deck(p: Position) -> Result<DeckLeft, Refusal>
+    ensures { view_of p result ≡ deck_answer p }
 {
-    if !proper::is_proper(p) {
-        return DeckView {
-            refusal: rules::NOT_PROPER,
-            position: p,
-            cards: [0u8; 24],
-            left: 0,
-            offset: 0,
-        };
-    }
-    let cards = p.deck;
-    DeckView {
-        refusal: ACCEPTED,
-        position: p,
-        cards: deck::cards(cards, p.left),
+    proper::judge(p)?;
+    let cards = deck::cards(p.deck, p.left);
+    Ok(DeckLeft {
+        cards,
         left: p.left,
         offset: p.offset,
-    }
+    })
 }
 
 // Whether a card is in the deck, and where.
-pub fn find(p: Position, card: u8) -> Located
-    ensures { result ≡ find_answer p card }
+pub fn find(p: Position, card: u8) -> Result<Found, Refusal>
+    ensures { located_of p result ≡ find_answer p card }
 {
-    if !proper::is_proper(p) {
-        return Located {
-            refusal: rules::NOT_PROPER,
-            position: p,
-            found: false,
-            place: 0,
-        };
-    }
+    let judged = proper::judge(p)?;
     if card > card::LAST_CARD {
-        return Located {
-            refusal: rules::NO_SUCH_MOVE,
-            position: p,
-            found: false,
-            place: 0,
-        };
+        return Err(Refusal::NoSuchMove);
     }
-    let f = deck::find_card(p, card);
-    Located {
-        refusal: ACCEPTED,
-        position: p,
-        found: f.found,
-        place: f.place,
-    }
+    Ok(deck::find_card(judged, card))
 }
 
 // The offset after n deals in a row.
-pub fn offset(p: Position, n: u8) -> Offset
-    ensures { result ≡ offset_answer p n }
+pub fn offset(p: Position, n: u8) -> Result<u8, Refusal>
+    ensures { offset_of p result ≡ offset_answer p n }
 {
-    if !proper::is_proper(p) {
-        return Offset {
-            refusal: rules::NOT_PROPER,
-            position: p,
-            offset: 0,
-        };
-    }
-    Offset {
-        refusal: ACCEPTED,
-        position: p,
-        offset: deck::offset(p.left, p.step, p.offset, n),
-    }
+    proper::judge(p)?;
+    Ok(deck::offset(p.left, p.step, p.offset, n))
 }

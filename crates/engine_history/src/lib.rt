@@ -2,91 +2,61 @@
 #![tactic(auto)]
 
 ghost use Rattle.std.specs.Prelude.{◌≡◌};
-ghost use Rattle.rules.specs.declared.TurnedUp.TheVariants.{Nothing};
 ghost use Rattle.rules.specs.Answers.{move_answer, move_history, undo_answer};
+ghost use Rattle.rules.specs.Results.{moved_of, undone_of};
 
-use rules::{ACCEPTED, Moved, Position, TurnedUp, Undone};
+use rules::{Position, Refusal, Step, StepBack};
 
-// A refused move: the given position and count.
-fn refused_move(refusal: u8, p: Position, count: usize) -> Moved
-    ensures { result ≡ record { refusal = refusal; position = p; count = count; byte = 0; turned = Nothing } }
+// Kept: the history is a lent slice and a count beside it, as C lends it (include/gravyhelm.h); a kind and a card are bytes, since nothing of them is trusted.
+
+// Makes a move and writes its entry at the count. Refused, the history is left as it is.
+pub fn do_move(
+    p: Position,
+    history: &mut [u16],
+    count: usize,
+    kind: u8,
+    card: u8,
+) -> Result<Step, Refusal>
+    ensures { (moved_of p count result ≡ move_answer p history.old count kind card) × (history.new ≡ move_history p history.old count kind card) }
 {
-    Moved {
-        refusal: refusal,
-        position: p,
-        count: count,
-        byte: 0,
-        turned: TurnedUp::Nothing,
-    }
-}
-
-// Makes a move and writes its entry at the count.
-pub fn do_move(p: Position, history: &mut [u16], count: usize, kind: u8, card: u8) -> Moved
-    ensures { (result ≡ move_answer p history.old count kind card) × (history.new ≡ move_history p history.old count kind card) }
-{
-    if !proper::is_proper(p) {
-        return refused_move(rules::NOT_PROPER, p, count);
-    }
+    let judged = proper::judge(p)?;
     if history.len() < count {
-        return refused_move(rules::WRONG_COUNT, p, count);
+        return Err(Refusal::WrongCount);
     }
-    if kind > moves::LAST_KIND {
-        return refused_move(rules::NO_SUCH_MOVE, p, count);
-    }
-    if card > card::LAST_CARD {
-        return refused_move(rules::NO_SUCH_MOVE, p, count);
-    }
-    if !legal::is_valid_move(p, kind, card) {
-        return refused_move(rules::NOT_LEGAL, p, count);
+    moves::admit(kind, card)?;
+    if !legal::is_valid_move(judged, kind, card) {
+        return Err(Refusal::NotLegal);
     }
     if count == history.len() {
-        return refused_move(rules::HISTORY_FULL, p, count);
+        return Err(Refusal::HistoryFull);
     }
     let next = count + 1;
-    let made = play::do_move(p, kind, card);
+    let made = play::do_move(judged, kind, card);
     history[count] = play::entry(made.byte, kind, card);
-    let after = made.position;
-    let turned = made.turned;
-    Moved {
-        refusal: ACCEPTED,
-        position: after,
+    Ok(Step {
+        position: made.position,
         count: next,
         byte: made.byte,
-        turned: turned,
-    }
-}
-
-fn refused_undo(refusal: u8, p: Position, count: usize) -> Undone
-    ensures { result ≡ record { refusal = refusal; position = p; count = count } }
-{
-    Undone {
-        refusal: refusal,
-        position: p,
-        count: count,
-    }
+        turned: made.turned,
+    })
 }
 
 // Goes back over the last entry. The history is left as it is.
-pub fn undo_move(p: Position, history: &[u16], count: usize) -> Undone
-    ensures { result ≡ undo_answer p history.now count }
+pub fn undo_move(p: Position, history: &[u16], count: usize) -> Result<StepBack, Refusal>
+    ensures { undone_of p count result ≡ undo_answer p history.now count }
 {
-    if !proper::is_proper(p) {
-        return refused_undo(rules::NOT_PROPER, p, count);
-    }
+    let judged = proper::judge(p)?;
     if history.len() < count {
-        return refused_undo(rules::WRONG_COUNT, p, count);
+        return Err(Refusal::WrongCount);
     }
     if count == 0 {
-        return refused_undo(rules::NOTHING_TO_UNDO, p, count);
+        return Err(Refusal::NothingToUndo);
     }
-    let back = play::undo(p, history[count - 1]);
-    if !back.possible {
-        return refused_undo(rules::WRONG_ENTRY, p, count);
-    }
-    let before = back.position;
-    Undone {
-        refusal: ACCEPTED,
+    let Some(before) = play::undo(judged, history[count - 1]) else {
+        return Err(Refusal::WrongEntry);
+    };
+    Ok(StepBack {
         position: before,
         count: count - 1,
-    }
+    })
 }

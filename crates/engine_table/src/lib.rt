@@ -3,98 +3,44 @@
 
 ghost use Rattle.std.specs.Prelude.{◌≡◌, length};
 ghost use Rattle.rules.specs.Answers.{win_answer, sure_win_answer, heights_answer, piles_answer, piles_buffer};
+ghost use Rattle.rules.specs.Results.{told_of, heights_of, piled_of};
 
-use rules::{ACCEPTED, Heights, Piled, Position, Told};
+use rules::{Position, Refusal};
 
 // The bytes that the face-up piles need.
 pub const PILE_BYTES: usize = card::N_PILES * card::N_RANKS;
 
 // Whether every foundation is full.
-pub fn is_win(p: Position) -> Told
-    ensures { result ≡ win_answer p }
+pub fn is_win(p: Position) -> Result<bool, Refusal>
+    ensures { told_of p result ≡ win_answer p }
 {
-    if !proper::is_proper(p) {
-        return Told {
-            refusal: rules::NOT_PROPER,
-            position: p,
-            yes: false,
-        };
-    }
-    let heights = p.heights;
-    Told {
-        refusal: ACCEPTED,
-        position: p,
-        yes: stack::is_full(heights),
-    }
+    proper::judge(p)?;
+    Ok(stack::is_full(p.heights))
 }
 
 // Whether at most one card is in the deck and nothing is buried.
-#[tactic(auto, using(proper::proofs::Judged::is_wrong, proper::proofs::Judged::is_right), unfolding(rules::specs::Answers::sure_win_answer, rules::specs::Answers::improper, rules::specs::Answers::told, rules::specs::Answers::is_sure_win))]
-pub fn is_sure_win(p: Position) -> Told
-    ensures { result ≡ sure_win_answer p }
+pub fn is_sure_win(p: Position) -> Result<bool, Refusal>
+    ensures { told_of p result ≡ sure_win_answer p }
 {
-    if !proper::is_proper(p) {
-        return Told {
-            refusal: rules::NOT_PROPER,
-            position: p,
-            yes: false,
-        };
-    }
-    let counts = p.counts;
-    if p.left > 1 {
-        return Told {
-            refusal: ACCEPTED,
-            position: p,
-            yes: false,
-        };
-    }
-    Told {
-        refusal: ACCEPTED,
-        position: p,
-        yes: hidden::is_all_up(&counts),
-    }
+    proper::judge(p)?;
+    Ok(p.left <= 1 && hidden::is_all_up(&p.counts))
 }
 
 // The foundation heights.
-pub fn heights(p: Position) -> Heights
-    ensures { result ≡ heights_answer p }
+pub fn heights(p: Position) -> Result<[u8; 4], Refusal>
+    ensures { heights_of p result ≡ heights_answer p }
 {
-    if !proper::is_proper(p) {
-        return Heights {
-            refusal: rules::NOT_PROPER,
-            position: p,
-            heights: [0u8; 4],
-        };
-    }
-    let h = p.heights;
-    Heights {
-        refusal: ACCEPTED,
-        position: p,
-        heights: h,
-    }
+    proper::judge(p)?;
+    Ok(p.heights)
 }
 
-// Writes the face-up piles into 91 bytes, 13 for each, and gives their lengths. Later bytes stay.
-pub fn piles(p: Position, out: &mut [u8]) -> Piled
-    ensures { (result ≡ piles_answer p (length out.old)) × (out.new ≡ piles_buffer p out.old) }
+// Writes the face-up piles into 91 bytes, 13 for each, and gives their lengths. Later bytes stay; refused, all do.
+pub fn piles(p: Position, out: &mut [u8]) -> Result<[u8; 7], Refusal>
+    ensures { (piled_of p result ≡ piles_answer p (length out.old)) × (out.new ≡ piles_buffer p out.old) }
 {
-    if !proper::is_proper(p) {
-        return Piled {
-            refusal: rules::NOT_PROPER,
-            position: p,
-            lengths: [0u8; 7],
-        };
-    }
+    let judged = proper::judge(p)?;
     if out.len() < PILE_BYTES {
-        return Piled {
-            refusal: rules::TOO_SHORT,
-            position: p,
-            lengths: [0u8; 7],
-        };
+        return Err(Refusal::TooShort);
     }
-    Piled {
-        refusal: ACCEPTED,
-        position: p,
-        lengths: piles::compute_visible_piles(p, out),
-    }
+    Ok(piles::compute_visible_piles(judged, out))
 }

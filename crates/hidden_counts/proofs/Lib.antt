@@ -1,2 +1,2 @@
 pub mod Head
-pub mod AllUp
+pub mod Counted

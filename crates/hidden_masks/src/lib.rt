@@ -1,15 +1,15 @@
 // The masks of the locked cards of the seven piles: the heads, the buried cards, the first cards of the piles.
 // A function takes what it reads, the deal and the counts, and requires no more than their ranges. Crate `hidden` passes these names on.
+// Kept: the two are no struct with a ghost field. They are two fields of Position, which crosses to C, and a caller would first build the
+// struct of them: `head_mask(&deal, &counts)` is shorter.
 #![tactic(auto)]
 
-ghost use Rattle.std.specs.Prelude.{◌≡◌, T};
+ghost use Rattle.std.specs.Prelude.{◌≡◌};
 ghost use Rattle.bits.specs.Bit.{mask_of};
 ghost use Rattle.rules.specs.Places.{is_head, alone};
-ghost use Rattle.rules.specs.Proper.{proper};
 ghost use Rattle.rules.specs.Hidden.{CardsFit, CountsFit, head_in, buried_in, locked_in, base_in};
 
-use card::N_PILES;
-use rules::Position;
+use rules::Judged;
 
 // The heads.
 pub fn head_mask(deal: &[u8; 52], counts: &[u8; 7]) -> u64
@@ -18,13 +18,11 @@ pub fn head_mask(deal: &[u8; 52], counts: &[u8; 7]) -> u64
     ensures { result ≡ mask_of 52 (head_in deal.now counts.now) }
 {
     let mut mask: u64 = 0;
-    let mut i: usize = 0;
-    while i < N_PILES {
-        let n = counts[i] as usize;
+    for (i, n) in counts.iter().enumerate() {
+        let n = *n as usize;
         let some = (0 < n) as usize;
         let at = card::pile_start(i) as usize + n - some;
         mask |= (some as u64) << deal[at];
-        i += 1;
     }
     mask
 }
@@ -45,12 +43,9 @@ pub fn buried_mask(deal: &[u8; 52], counts: &[u8; 7]) -> u64
     ensures { result ≡ mask_of 52 (buried_in deal.now counts.now) }
 {
     let mut mask: u64 = 0;
-    let mut i: usize = 0;
-    while i < N_PILES {
-        let n = counts[i] as usize;
-        let head = (0 < n) as usize;
-        mask |= card::cards_from(deal, card::pile_start(i) as usize, n - head);
-        i += 1;
+    for (i, n) in counts.iter().enumerate() {
+        let buried = (*n as usize).saturating_sub(1);
+        mask |= card::cards_from(deal, card::pile_start(i) as usize, buried);
     }
     mask
 }
@@ -71,15 +66,12 @@ pub struct HeadMasks {
     pub alone: u64,
 }
 
-pub fn heads(p: Position) -> HeadMasks
-    requires { T (proper p) }
-    ensures { (result.all ≡ mask_of 52 (is_head p)) × (result.alone ≡ mask_of 52 (alone p)) }
+pub fn heads(p: Judged) -> HeadMasks
+    ensures { (result.all ≡ mask_of 52 (is_head p.position)) × (result.alone ≡ mask_of 52 (alone p.position)) }
 {
-    let deal = p.deal;
-    let counts = p.counts;
-    let all = head_mask(&deal, &counts);
+    let all = head_mask(&p.position.deal, &p.position.counts);
     HeadMasks {
-        all: all,
-        alone: all & base_mask(&deal),
+        all,
+        alone: all & base_mask(&p.position.deal),
     }
 }

@@ -1,18 +1,18 @@
 // The masks that a hint call hands out: the legal moves, or, where pruning is asked, those that are worth trying.
 #![tactic(auto)]
 
-ghost use Rattle.std.specs.Prelude.{◌≡◌, T};
-ghost use Rattle.rules.specs.Proper.{proper};
+ghost use Rattle.std.specs.Prelude.{◌≡◌};
 ghost use Rattle.rules.specs.Answers.{masks_for};
 
-use rules::{Masks, Position};
+use rules::{Judged, Masks};
 
-pub fn masks_for(p: Position, pruned: bool) -> Masks
-    requires { T (proper p) }
-    ensures { result ≡ masks_for pruned p }
+#[tactic(auto, unfolding(rules::specs::Answers::masks_for))]
+pub fn masks_for(p: Judged, pruned: bool) -> Masks
+    ensures { result ≡ masks_for pruned p.position }
 {
     if pruned {
-        return prune::pruned(p);
+        prune::pruned(p)
+    } else {
+        legal::masks(p)
     }
-    legal::masks(p)
 }

@@ -1,5 +1,6 @@
 // The work behind the public calls, without their judging: a library for measuring alone. Nothing here is a public call.
 // Each function says of its result what the function that it hands on says.
+// Kept: plain positions with a clause that they are proper, kinds as bytes, numbers for refusals and for none: the C interface.
 #![tactic(auto)]
 
 ghost use Rattle.std.specs.Prelude.{cond, ◌≡◌, ◌<◌, ◌≤◌, T, length, get_or};
@@ -15,7 +16,7 @@ ghost use Rattle.rules.specs.Play.{after, undo_byte, before};
 ghost use Rattle.rules.specs.Answers.{find_place, resume_answer};
 ghost use Rattle.play.specs.Made.{has_way};
 
-use rules::{Masks, Position, Started};
+use rules::{ACCEPTED, Judged, Masks, Position, Started};
 
 // A position is handed over, and nothing is done: what every call below pays for it.
 #[unsafe(no_mangle)]
@@ -38,7 +39,7 @@ pub extern "C" fn inside_masks(p: Position) -> Masks
     requires { T (is_proper p) }
     ensures { result ≡ unpruned p }
 {
-    legal::masks(p)
+    legal::masks(Judged { position: p })
 }
 
 #[unsafe(no_mangle)]
@@ -46,7 +47,7 @@ pub extern "C" fn inside_pruned(p: Position) -> Masks
     requires { T (is_proper p) }
     ensures { result ≡ pruned p }
 {
-    prune::pruned(p)
+    prune::pruned(Judged { position: p })
 }
 
 #[unsafe(no_mangle)]
@@ -54,7 +55,7 @@ pub extern "C" fn inside_is_valid_move(p: Position, kind: u8, card: u8) -> bool
     requires { T (is_proper p) × (kind < 5) × (card < 52) }
     ensures { result ≡ is_legal p kind card }
 {
-    legal::is_valid_move(p, kind, card)
+    legal::is_valid_move(Judged { position: p }, kind, card)
 }
 
 #[unsafe(no_mangle)]
@@ -71,7 +72,7 @@ pub extern "C" fn inside_piles(p: Position, out: &mut [u8]) -> u8
     requires { T (is_proper p) × (91 ≤ length out.old) }
     ensures { (result ≡ get_or (pile_lengths p) 0 0) × (out.new ≡ piles_into p out.old) }
 {
-    let lens = piles::compute_visible_piles(p, out);
+    let lens = piles::compute_visible_piles(Judged { position: p }, out);
     lens[0]
 }
 
@@ -89,7 +90,7 @@ pub extern "C" fn inside_find(p: Position, card: u8) -> u8
     requires { T (is_proper p) }
     ensures { result ≡ cond (in_deck p card) (find_place p card) 255 }
 {
-    let f = deck::find_card(p, card);
+    let f = deck::find_card(Judged { position: p }, card);
     if f.found { f.place } else { 255 }
 }
 
@@ -98,7 +99,7 @@ pub extern "C" fn inside_save(p: Position) -> u64
     requires { T (is_proper p) }
     ensures { result ≡ code_of p }
 {
-    code::encode(p)
+    code::encode(Judged { position: p })
 }
 
 // With all its judging.
@@ -106,7 +107,11 @@ pub extern "C" fn inside_save(p: Position) -> u64
 pub extern "C" fn inside_resume(step: u8, cards: &[u8], code: u64) -> Started
     ensures { result ≡ resume_answer cards.now step code }
 {
-    code::resume(step, cards, code)
+    let (refusal, position) = match code::resume(step, cards, code) {
+        Ok(position) => (ACCEPTED, position),
+        Err(refusal) => (u8::from(refusal), deal::blank()),
+    };
+    Started { refusal, position }
 }
 
 // What a move leads to, and the byte that its undo needs.
@@ -122,10 +127,9 @@ pub extern "C" fn inside_do_move(p: Position, kind: u8, card: u8) -> Step
     requires { T (is_proper p) × T (is_legal p kind card) }
     ensures { result ≡ record { position = after p kind card; byte = undo_byte p kind card } }
 {
-    let made = play::do_move(p, kind, card);
-    let q = made.position;
+    let made = play::do_move(Judged { position: p }, kind, card);
     Step {
-        position: q,
+        position: made.position,
         byte: made.byte,
     }
 }
@@ -135,5 +139,5 @@ pub extern "C" fn inside_undo_move(p: Position, byte: u8, kind: u8, card: u8) ->
     requires { T (is_proper p) × T (has_way p byte kind card) }
     ensures { result ≡ before p byte kind card }
 {
-    play::undo_move(p, byte, kind, card)
+    play::undo_move(Judged { position: p }, byte, kind, card)
 }

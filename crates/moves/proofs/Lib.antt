@@ -1,2 +1,4 @@
+pub mod Named
 pub mod Sized
 pub mod Writes
+pub mod Taken

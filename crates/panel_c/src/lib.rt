@@ -1,4 +1,5 @@
 // The library that C links: `panel`'s calls under the names that include/gravyhelm.h declares, each with the same clauses.
+// Kept: a function here for each of `panel`, the C interface. Only a static library exports names to C, and the crates above `panel` need a library.
 #![tactic(auto)]
 
 ghost use Rattle.std.specs.Prelude.{◌≡◌};

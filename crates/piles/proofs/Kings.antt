@@ -9,14 +9,7 @@ use native.Mathlib.Omega.{arith}
 use Rattle.bits.specs.Bit.{bit, list_of, cons_if}
 use Rattle.bits.proofs.Counts.{list_ext}
 use Rattle.rules.specs.Cards.{card_of, flipped}
-use Rattle.piles.specs.declared.Next.{Next}
-use Rattle.piles.specs.declared.Next.TheVariants.{Suit, None}
 use Rattle.piles.specs.Run.{kings_of}
-
--- what a search from a suit on yields: the first king and where the others start, or that there is none
-abbrev pub Yields : ℕ → ℕ → Next → Type 0
-Yields free from (Suit s) = (s < 4) × (kings_of free from ≡ (48 + s) ∷ kings_of free (s + 1))
-Yields free from None = kings_of free from ≡ []
 
 pub kings_end : (free s : ℕ) → 4 ≤ s → kings_of free s ≡ []
 unfolding kings_of list_of

@@ -1,14 +1,13 @@
 // The face-up piles of a position.
 #![tactic(auto)]
 
-ghost use Rattle.std.specs.Prelude.{◌≡◌, ◌<◌, ◌≤◌, T, length, replicate};
+ghost use Rattle.std.specs.Prelude.{◌≡◌, ◌<◌, ◌≤◌, length, replicate};
 ghost use Rattle.bits.specs.Bit.{bit};
-ghost use Rattle.rules.specs.Proper.{proper};
 ghost use Rattle.rules.specs.Piles.{rest, pile_lengths, piles_into};
 ghost use Rattle.piles.specs.Run.{tried_of, run_of, kings_of, first_run_of, row};
 
 use card::{Card, N_PILES, N_RANKS};
-use rules::Position;
+use rules::Judged;
 
 // The cards of one rank: one of each suit.
 const SUITS: u8 = card::N_SUITS as u8;
@@ -20,6 +19,7 @@ const KING: u8 = card::LAST_CARD + 1 - SUITS;
 const UNUSED: u8 = 255;
 
 // Whether the card is in m.
+#[tactic(auto, using(bits::proofs::Laws::has_shr), unfolding(bits::specs::Bit::bit))]
 fn has(m: u64, card: u8) -> bool
     requires { card < 64 }
     ensures { result ≡ bit m card }
@@ -34,24 +34,10 @@ fn next_card(vis: u64, free: u64, card: u8) -> u8
 {
     let has_both = has(vis, Card(card).swap_suit().0);
     let next = card - SUITS;
-    if has_both {
-        return next;
-    }
-    if has(free, next) {
-        return next;
-    }
-    Card(next).swap_suit().0
-}
-
-// A pile that shows nothing.
-fn clear(part: &mut [u8])
-    requires { length part.old ≡ 13 }
-    ensures { part.new ≡ replicate 13 255 }
-{
-    let mut i: usize = 0;
-    while i < N_RANKS {
-        part[i] = UNUSED;
-        i += 1;
+    if has_both || has(free, next) {
+        next
+    } else {
+        Card(next).swap_suit().0
     }
 }
 
@@ -60,9 +46,10 @@ fn fill_run(part: &mut [u8], vis: u64, free: u64, start: u8) -> u8
     requires { (length part.old ≡ 13) × (start < 52) }
     ensures { (result ≡ length (run_of vis free 13 start)) × (part.new ≡ row (run_of vis free 13 start)) }
 {
-    clear(part);
     let mut card = start;
     let mut n: usize = 0;
+    part.fill(UNUSED);
+    // Kept: each card follows from the one above it. A `for` over the places would need an answer after the last of them, where no run gets.
     loop {
         part[n] = card;
         n += 1;
@@ -77,18 +64,11 @@ fn fill_run(part: &mut [u8], vis: u64, free: u64, start: u8) -> u8
     n as u8
 }
 
-// What the search for the next free king yields.
-#[derive(Clone, Copy)]
-pub enum Next {
-    Suit(u8),
-    None,
-}
-
 // Of a pile with no head: its length, and the suit from which the next search starts.
 #[derive(Clone, Copy)]
-pub struct Filled {
-    pub len: u8,
-    pub from: u8,
+struct Filled {
+    len: u8,
+    from: u8,
 }
 
 // A pile with no head takes the next free king from a suit on.
@@ -96,48 +76,34 @@ fn fill_empty(part: &mut [u8], vis: u64, free: u64, from: u8) -> Filled
     requires { length part.old ≡ 13 }
     ensures { (result.len ≡ length (first_run_of vis free (kings_of free from))) × (kings_of free result.from ≡ rest (kings_of free from)) × (part.new ≡ row (first_run_of vis free (kings_of free from))) }
 {
-    let mut s = from;
-    let next = loop {
-        if SUITS <= s {
-            break Next::None;
-        }
+    for s in from..SUITS {
         if has(free, KING + s) {
-            break Next::Suit(s);
+            return Filled {
+                len: fill_run(part, vis, free, KING + s),
+                from: s + 1,
+            };
         }
-        s += 1;
-    };
-    match next {
-        Next::Suit(k) => {
-            let len = fill_run(part, vis, free, KING + k);
-            Filled {
-                len: len,
-                from: k + 1,
-            }
-        }
-        Next::None => {
-            clear(part);
-            Filled {
-                len: 0,
-                from: SUITS,
-            }
-        }
+    }
+    part.fill(UNUSED);
+    Filled {
+        len: 0,
+        from: SUITS,
     }
 }
 
 // "a pile with a head starts there, other piles take free kings by suit": pile i through its own 13 of the lent bytes.
-pub fn compute_visible_piles(p: Position, out: &mut [u8]) -> [u8; 7]
-    requires { T (proper p) × (91 ≤ length out.old) }
-    ensures { (result ≡ pile_lengths p) × (out.new ≡ piles_into p out.old) }
+pub fn compute_visible_piles(p: Judged, out: &mut [u8]) -> [u8; 7]
+    requires { 91 ≤ length out.old }
+    ensures { (result ≡ pile_lengths p.position) × (out.new ≡ piles_into p.position out.old) }
 {
-    let deal = p.deal;
-    let counts = p.counts;
-    let vis = p.visible;
+    let deal = p.position.deal;
+    let counts = p.position.counts;
+    let vis = p.position.visible;
     let heads = hidden::heads(p);
     let free = vis & !heads.all;
     let mut lens = [0u8; N_PILES];
     let mut from: u8 = 0;
-    let mut i: usize = 0;
-    while i < N_PILES {
+    for i in 0..N_PILES {
         let a = N_RANKS * i;
         let n = counts[i] as usize;
         if 0 < n {
@@ -148,7 +114,6 @@ pub fn compute_visible_piles(p: Position, out: &mut [u8]) -> [u8; 7]
             from = f.from;
             lens[i] = f.len;
         }
-        i += 1;
     }
     lens
 }

@@ -1,9 +1,6 @@
 pub mod Sight
 pub mod Known
+pub mod Taken
 pub mod EachKind
-pub mod LastKind
-pub mod Written
-pub mod Halfway
 pub mod Ways
 pub mod Same
-pub mod Answered

@@ -1,6 +1,6 @@
 -- An entry that has no way back is impossible: the tests that go before the unmaking refuse nothing that undo would grant.
 -- Assumes nothing.
-use mathlib.Core.Bool.{Bool, true, false, ◌&&◌, ◌||◌, cond, and-false, true≢false}
+use mathlib.Core.Bool.{Bool, true, false, not, ◌&&◌, ◌||◌, cond, true≢false}
 use mathlib.Core.Path.{◌≡◌, refl, sym, ap, ap₂, ◌∙◌, subst}
 use mathlib.Core.List.{List}
 use Prim.Native.Nat.{ℕ, zero, suc, ◌+◌, ◌-◌, ◌≤◌, ◌<◌}
@@ -22,9 +22,16 @@ use Rattle.rules.proofs.Facts.{Facts, facts_of as facts}
 use Rattle.facts.proofs.DealKept.{pile_of_deal}
 use Rattle.rules.proofs.Placed.{HeadOf, head_of_lem}
 use Rattle.facts.proofs.TurnedBack.{back_stays}
-use Rattle.facts.proofs.UndoTest.{passes}
+use Rattle.facts.proofs.UndoTest.{passes as undo_passes}
+use Rattle.std.specs.Bool.{then_some}
 use Rattle.play.specs.Made.{left_pile, has_way}
-use Rattle.play.specs.declared.Back.{Back}
+use Rattle.std.proofs.Common.{Some, None, Result}
+use Rattle.std.specs.Prelude.{⊤}
+use Rattle.std.specs.Result.{is_err}
+use Rattle.rules.specs.declared.Refusal.{Refusal}
+use Rattle.rules.specs.declared.Refusal.TheVariants.{NoSuchMove}
+use Rattle.rules.specs.Results.{passes}
+use Rattle.std.proofs.lemmas.Option.{cond_some, none-some}
 use Rattle.play.specs.Undone.{leads_to, undone}
 
 -- ---- a head that is back on its pile had left it
@@ -94,6 +101,14 @@ module _ (p : Position) (byte c : ℕ) (long : length p.counts ≡ 7) where
 
 -- ---- refusal 15, by what the code asks in turn
 
+pub is_admitted : {r : Result ⊤ Refusal} {x b : Bool} → r ≡ passes b NoSuchMove → x ≡ is_err r → not x ≡ b
+unfolding passes
+is_admitted {r} {x} {b} h e = rw (e, h) (go b)
+  where
+    go : (b : Bool) → not (is_err (passes b NoSuchMove)) ≡ b
+    go true = refl
+    go false = refl
+
 module _ (p : Position) (e : ℕ) where
   abbrev pub back : Position
   back = before p (entry_byte e) (entry_kind e) (entry_card e)
@@ -101,7 +116,7 @@ module _ (p : Position) (e : ℕ) where
   abbrev pub leads : Bool
   leads = leads_to back (entry_byte e) (entry_kind e) (entry_card e) p
 
-  abbrev is_move : Bool
+  abbrev pub is_move : Bool
   is_move = is_kind_and_card (entry_kind e) (entry_card e)
 
   pub undoable_is : undoable p e ≡ (is_move && leads)
@@ -120,35 +135,33 @@ module _ (p : Position) (e : ℕ) where
   no_way long h =
       is_false (undoable p e)
       (λ u.
-      let w = passes p e u in
+      let w = undo_passes p e u in
       true≢false (sym (has_way_lem p (entry_byte e) (entry_card e) long (entry_kind e) w.is_proper w.is_legal w.is_byte) ∙ h))
 
   pub not_move : is_move ≡ false → undoable p e ≡ false
   not_move h = undoable_is ∙ ap (λ (b : Bool). b && leads) h
 
-  pub not_led : leads ≡ false → undoable p e ≡ false
-  not_led h = undoable_is ∙ ap (λ (b : Bool). is_move && b) h ∙ and-false is_move
-
-  pub led : is_move ≡ true → leads ≡ true → undoable p e ≡ true
-  led k h = undoable_is ∙ and_both is_move leads k h
-
-  pub none_is : undoable p e ≡ false → record { possible = false; position = p } ≡ undone p e
+  pub none_is : undoable p e ≡ false → None ≡ undone p e
   unfolding undone
   none_is h = rw h refl
 
-  pub some_is : undoable p e ≡ true → record { possible = true; position = back } ≡ undone p e
+  pub then_is : is_move ≡ true → then_some leads back ≡ undone p e
   unfolding undone step_back
-  some_is h = rw h refl
-
-  -- the answer's two parts
-  pub possible_is : (undone p e).possible ≡ undoable p e
-  unfolding undone
-  possible_is = go (undoable p e)
+  then_is h = rw (undoable_is, h) (go leads)
     where
-      go : (b : Bool) → (cond {A = Back} b (record { possible = true; position = step_back p e }) (record { possible = false; position = p })).possible ≡ b
+      go : (b : Bool) → then_some b back ≡ cond b (Some back) None
       go true = refl
       go false = refl
 
-  pub position_is : undoable p e ≡ true → (undone p e).position ≡ step_back p e
+  -- what the answer says
+  pub not_back : None ≡ undone p e → undoable p e ≡ false
   unfolding undone
-  position_is h = rw h refl
+  not_back h = go (undoable p e) h
+    where
+      go : (b : Bool) → None ≡ cond b (Some (step_back p e)) None → b ≡ false
+      go true k = absurd (none-some _ k)
+      go false k = refl
+
+  pub back_to : {q : Position} → Some q ≡ undone p e → (undoable p e ≡ true) × (q ≡ step_back p e)
+  unfolding undone
+  back_to h = let j = cond_some (undoable p e) _ _ (sym h) in (j.0, sym j.1)

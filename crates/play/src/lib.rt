@@ -1,6 +1,7 @@
 // Making a move and going back over one, and the entries of a history: the work behind the engine's move and undo.
 #![tactic(auto)]
 
+// Kept: a kind and a card are bytes, and the byte of an entry stands beside them: `undo` takes them from an entry that anybody may have written, and each function answers for every byte.
 mod entries;
 mod make;
 mod parts;
@@ -17,11 +18,4 @@ pub struct Made {
     pub position: Position,
     pub byte: u8,
     pub turned: TurnedUp,
-}
-
-// What going back over an entry leads to. Where that is impossible the position is the given one.
-#[derive(Clone, Copy)]
-pub struct Back {
-    pub possible: bool,
-    pub position: Position,
 }

@@ -2,102 +2,56 @@
 ghost use Rattle.std.specs.Prelude.{◌<◌};
 
 use replay_bytes::Answer;
-use replay_bytes::record::{SIZE, byte, put, put_4};
-use replay_rows::read;
+use replay_bytes::record::{Row, SIZE};
 use rules::{Cursor, Position};
-
-const TESTS: u8 = 9;
-
-const FINDS: u8 = 10;
-
-const OFFSETS: u8 = 11;
 
 // The first entry's place.
 const FIRST: usize = 4;
 
-fn test(p: Position, row: [u8; 64], out: [u8; 64], at: usize) -> Answer
-    requires { at < 64 }
+// The places of the entries, each of so many bytes, from first to last: `one` adds what a call makes of the entry there.
+fn several<F: Fn(Answer, usize) -> Answer>(row: Row, out: Row, width: usize, one: F) -> Answer
+    requires width { 0 < width }
+    requires one { F.IsAlwaysCallable one }
 {
-    let kind = byte(row, at);
-    let card = byte(row, at + 1);
-    let a = engine::test(p, kind, card);
-    let bytes = put_4(out, at, kind, card, a.refusal, a.yes as u8);
-    read(bytes, p, a.position)
-}
-
-fn find(p: Position, row: [u8; 64], out: [u8; 64], at: usize) -> Answer
-    requires { at < 64 }
-{
-    let card = byte(row, at);
-    let a = engine::find(p, card);
-    let bytes = put_4(out, at, card, a.refusal, a.found as u8, a.place);
-    read(bytes, p, a.position)
-}
-
-fn offset(p: Position, row: [u8; 64], out: [u8; 64], at: usize) -> Answer
-    requires { at < 64 }
-{
-    let n = byte(row, at);
-    let a = engine::offset(p, n);
-    let bytes = put(put(put(out, at, n), at + 1, a.refusal), at + 2, a.offset);
-    read(bytes, p, a.position)
-}
-
-fn cursor(row: [u8; 64], out: [u8; 64], at: usize) -> Answer
-    requires { at < 64 }
-{
-    let offset = byte(row, at + 2);
-    let a = deck::deal_once(Cursor {
-        len: byte(row, at),
-        step: byte(row, at + 1),
-        offset: offset,
-    });
-    let c = a.cursor;
-    let bytes = put_4(out, at, c.len, c.step, offset, a.refusal);
-    Answer {
-        bytes: put(bytes, at + 4, c.offset),
-        kept: true,
+    let mut a = Answer::new(out);
+    for at in (FIRST..SIZE).step_by(width).take(usize::from(row.byte(2))) {
+        a = one(a, at);
     }
+    a
 }
 
-fn one(a: Answer, p: Position, tag: u8, row: [u8; 64], at: usize) -> Answer
-    requires { at < 64 }
-{
-    let out = a.bytes;
-    let b = match tag {
-        TESTS => test(p, row, out, at),
-        FINDS => find(p, row, out, at),
-        OFFSETS => offset(p, row, out, at),
-        _ => cursor(row, out, at),
-    };
-    replay_bytes::marked(b, a.kept)
+pub fn tests(p: Position, row: Row, out: Row) -> Answer {
+    several(row, out, 4, |a, at| {
+        let [kind, card]: [u8; 2] = row.bytes(at);
+        let t = panel::gravyhelm_test(p, kind, card);
+        a.put_all(at, &[kind, card, t.refusal, u8::from(t.yes)])
+            .marked(t.position == p)
+    })
 }
 
-// The bytes of an entry.
-fn width(tag: u8) -> usize
-    ensures { (2 < result) × (result < 6) }
-{
-    match tag {
-        TESTS | FINDS => 4,
-        OFFSETS => 3,
-        _ => 5,
-    }
+pub fn finds(p: Position, row: Row, out: Row) -> Answer {
+    several(row, out, 4, |a, at| {
+        let card = row.byte(at);
+        let f = panel::gravyhelm_find(p, card);
+        a.put_all(at, &[card, f.refusal, u8::from(f.found), f.place])
+            .marked(f.position == p)
+    })
 }
 
-pub fn several(p: Position, tag: u8, row: [u8; 64], out: [u8; 64]) -> Answer {
-    let w = width(tag);
-    let mut left = byte(row, 2);
-    let mut at = FIRST;
-    let mut after = Answer {
-        bytes: out,
-        kept: true,
-    };
-    while left > 0 {
-        left -= 1;
-        if at < SIZE {
-            after = one(after, p, tag, row, at);
-            at += w;
-        }
-    }
-    after
+pub fn offsets(p: Position, row: Row, out: Row) -> Answer {
+    several(row, out, 3, |a, at| {
+        let n = row.byte(at);
+        let o = panel::gravyhelm_offset(p, n);
+        a.put_all(at, &[n, o.refusal, o.offset])
+            .marked(o.position == p)
+    })
+}
+
+pub fn cursors(row: Row, out: Row) -> Answer {
+    several(row, out, 5, |a, at| {
+        let [len, step, offset]: [u8; 3] = row.bytes(at);
+        let d = panel::gravyhelm_deal_once(Cursor { len, step, offset });
+        let c = d.cursor;
+        a.put_all(at, &[c.len, c.step, offset, d.refusal, c.offset])
+    })
 }

@@ -2,83 +2,72 @@
 ghost use Rattle.std.specs.Prelude.{◌≤◌};
 
 use crate::starts;
-use replay_bytes::record::{byte, put, put_long, put_short, short};
-use replay_bytes::{Answer, marked};
+use panel::MovedNumbers;
+use replay_bytes::Answer;
+use replay_bytes::record::Row;
 use replay_rows::history::N_SLOTS;
 use replay_rows::laid::put_move;
-use replay_rows::table::{Table, moved};
-use replay_rows::{history, read, table};
-use rules::{Moved, Position};
+use replay_rows::table::Table;
+use replay_rows::{history, read};
+use rules::Position;
 
 // What a move and an undo both answer. After a refusal the position must have come back, and the code and the visible mask stay 0.
-fn arrived(before: Position, refusal: u8, p: Position, out: [u8; 64], count: usize) -> Answer {
-    let a = put_short(put(out, 1, refusal), 8, count);
+fn arrived(before: Position, refusal: u8, p: Position, out: Row, count: usize) -> Answer {
+    let bytes = out.put(1, refusal).put_size(8, count);
     if refusal != 0 {
-        return read(a, before, p);
+        return read(bytes, before, p);
     }
-    starts::coded(p, refusal, put_long(a, 24, p.visible), 16)
+    starts::coded(p, refusal, bytes.put_long(24, p.visible), 16)
 }
 
 // A move's answer, and the history and the position after it.
 fn made(
-    p: Position,
-    before: [u16; 64],
-    m: Moved,
-    after: [u16; 64],
-    room: usize,
+    t: Table,
+    m: MovedNumbers,
+    after: [u16; N_SLOTS],
+    written: u16,
     count: usize,
-    out: [u8; 64],
+    out: Row,
 ) -> Table {
-    let turned = m.turned;
-    let bytes = put_move(out, m.byte, turned, history::slot(after, room, count));
-    let a = arrived(p, m.refusal, m.position, bytes, m.count);
-    let b = marked(a, history::kept(before, after, count, m.refusal));
-    moved(p, m.refusal, m.position, after, b)
+    let bytes = put_move(out, m.byte, m.turned, written);
+    let a = arrived(t.position, m.refusal, m.position, bytes, m.count);
+    let kept = history::kept(t.history, after, count, m.refusal);
+    t.moved(m.refusal, m.position, after, a.marked(kept))
 }
 
 // A move over the slots that the record lends.
-fn tried(
-    p: Position,
-    before: [u16; 64],
-    room: usize,
-    count: usize,
-    row: [u8; 64],
-    out: [u8; 64],
-) -> Table
+fn tried(t: Table, room: usize, count: usize, row: Row, out: Row) -> Table
     requires { room ≤ 64 }
 {
-    let kind = byte(row, 2);
-    let card = byte(row, 3);
-    let mut after = before;
-    let m = engine::do_move(p, &mut after[..room], count, kind, card);
-    made(p, before, m, after, room, count, out)
+    let mut after = t.history;
+    let m = panel::gravyhelm_do_move(
+        t.position,
+        &mut after[..room],
+        count,
+        row.byte(2),
+        row.byte(3),
+    );
+    let written = history::slot(&after[..room], count);
+    made(t, m, after, written, count, out)
 }
 
-pub fn make(t: Table, row: [u8; 64], out: [u8; 64]) -> Table {
-    let room = short(row, 4);
+pub fn make(t: Table, row: Row, out: Row) -> Table {
+    let room = usize::from(row.short(4));
     if N_SLOTS < room {
-        return table::with(t, replay_bytes::unasked(out));
+        return t.with(Answer::unasked(out));
     }
-    let before = t.history;
-    tried(t.position, before, room, short(row, 6), row, out)
+    tried(t, room, usize::from(row.short(6)), row, out)
 }
 
 // An undo of the last entry, which leaves the history.
-fn unmade(p: Position, history: [u16; 64], room: usize, count: usize, out: [u8; 64]) -> Table
-    requires { room ≤ 64 }
-{
-    let u = engine::undo_move(p, &history[..room], count);
-    let a = arrived(p, u.refusal, u.position, out, u.count);
-    moved(p, u.refusal, u.position, history, a)
-}
-
-pub fn undo(t: Table, row: [u8; 64], out: [u8; 64]) -> Table {
-    let room = short(row, 4);
-    let count = short(row, 6);
+pub fn undo(t: Table, row: Row, out: Row) -> Table {
+    let room = usize::from(row.short(4));
+    let count = usize::from(row.short(6));
     if N_SLOTS < room {
-        return table::with(t, replay_bytes::unasked(out));
+        return t.with(Answer::unasked(out));
     }
-    let before = t.history;
-    let slots = history::with_entry(before, room, count, short(row, 2) as u16);
-    unmade(t.position, slots, room, count, out)
+    let history = history::with_entry(t.history, room, count, row.short(2));
+    let u = panel::gravyhelm_undo_move(t.position, &history[..room], count);
+    let a = arrived(t.position, u.refusal, u.position, out, u.count);
+    t.moved(u.refusal, u.position, history, a)
 }

@@ -1,76 +1,59 @@
 // Tags 1, 2 and 12: a deal, a resume, and the ladder with a resumed position.
-ghost use Rattle.std.specs.Prelude.{◌<◌};
-
-use replay_bytes::record::{SIZE, byte, difference, long, part, put, put_long, small};
-use replay_bytes::{Answer, marked};
-use replay_rows::same::same;
-use replay_rows::table::{Table, started};
+use replay_bytes::Answer;
+use replay_bytes::record::Row;
+use replay_rows::set::Field;
+use replay_rows::table::Table;
 use replay_rows::{read, set};
-use rules::{Position, Started};
+use rules::Position;
 
 // The save code of a position, and 0 after a refusal. The call hands the position back.
-pub fn coded(p: Position, refusal: u8, out: [u8; 64], at: usize) -> Answer
-    requires { at < 58 }
-{
+pub fn coded(p: Position, refusal: u8, out: Row, at: usize) -> Answer {
     if refusal != 0 {
-        return Answer {
-            bytes: out,
-            kept: true,
-        };
+        return Answer::new(out);
     }
-    let s = engine::save(p);
-    read(put_long(out, at, s.code), p, s.position)
+    let s = panel::gravyhelm_save(p);
+    read(out.put_long(at, s.code), p, s.position)
 }
 
-fn dealt(row: [u8; 64]) -> Started {
-    let step = byte(row, 2);
-    let n = small(row, 3);
-    engine::deal(step, part(&row, 4, n))
-}
-
-pub fn deal(t: Table, row: [u8; 64], out: [u8; 64]) -> Table {
-    let s = dealt(row);
-    let a = put(out, 1, s.refusal);
-    started(t, s, coded(s.position, s.refusal, a, 56))
+pub fn deal(t: Table, row: Row, out: Row) -> Table {
+    let n = usize::from(row.byte(3));
+    let s = panel::gravyhelm_deal(row.byte(2), row.part(4, n));
+    let a = coded(s.position, s.refusal, out.put(1, s.refusal), 56);
+    t.started(s.refusal, s.position, a)
 }
 
 // The position's deal, of which a place may have another card.
-fn resumed(p: Position, row: [u8; 64]) -> Started {
-    let q = set::with(p, set::DEAL, small(row, 20), byte(row, 21));
+pub fn resume(t: Table, row: Row, out: Row) -> Table {
+    let place = row.byte(20);
+    let card = row.byte(21);
+    let q = set::with(t.position, Field::Deal, usize::from(place), card);
+    let n = usize::from(row.byte(3));
     let cards = q.deal;
-    engine::resume(byte(row, 2), part(&cards, 0, small(row, 3)), long(row, 4))
-}
-
-pub fn resume(t: Table, row: [u8; 64], out: [u8; 64]) -> Table {
-    let s = resumed(t.position, row);
-    let q = s.position;
-    let a = put(put(out, 20, byte(row, 20)), 21, byte(row, 21));
-    let b = Answer {
-        bytes: put_long(put(a, 1, s.refusal), 12, q.visible),
-        kept: true,
-    };
-    started(t, s, b)
+    let s = panel::gravyhelm_resume(row.byte(2), cards.get(..n).unwrap_or(&[]), row.long(4));
+    let p = s.position;
+    let bytes = out
+        .put(1, s.refusal)
+        .put_all(20, &[place, card])
+        .put_long(12, p.visible);
+    t.started(s.refusal, p, Answer::new(bytes))
 }
 
 // The position of a code of the same deal.
-fn other(p: Position, row: [u8; 64]) -> Position {
+fn other(p: Position, row: Row) -> Position {
     let cards = p.deal;
-    engine::resume(byte(row, 3), &cards, long(row, 4)).position
+    panel::gravyhelm_resume(row.byte(3), &cards, row.long(4)).position
 }
 
 // The ladder hands both positions back.
-fn ranked(p: Position, q: Position, out: [u8; 64]) -> Answer {
-    let a = engine::ladder(p, q);
-    let b = read(put(put(out, 1, a.refusal), 2, a.same as u8), p, a.first);
-    marked(b, same(a.second, q))
+fn ranked(p: Position, q: Position, out: Row) -> Answer {
+    let a = panel::gravyhelm_ladder(p, q);
+    read(out.put_all(1, &[a.refusal, u8::from(a.same)]), p, a.first).marked(a.second == q)
 }
 
 // Both ways must answer alike.
-pub fn ladder(p: Position, row: [u8; 64], out: [u8; 64]) -> Answer {
+pub fn ladder(p: Position, row: Row, out: Row) -> Answer {
     let q = other(p, row);
     let there = ranked(p, q, out);
     let back = ranked(q, p, out);
-    let a = there.bytes;
-    let b = back.bytes;
-    marked(marked(there, back.kept), difference(a, b) == SIZE)
+    there.marked(back.kept).marked(there.bytes == back.bytes)
 }

@@ -1,54 +1,29 @@
 // A record's bytes; numbers of 2 and 8 bytes are little-endian. Past the end a byte reads 0 and a write does nothing,
 // so that no reader has to know a length.
-ghost use Rattle.std.specs.Prelude.{◌≡◌, ◌<◌, false, true, length, take, IfSome, IfOk};
-ghost use Rattle.std.specs.Io.{ReadsAtMost};
+ghost use Rattle.std.specs.Prelude.{◌≡◌, ◌<◌, true, false, length, IfSome, IfNone, IfOk, slice_index_or, slice_set};
 ghost use Rattle.std.specs.Io.KnownBytes.{Consumes, IsAtEnd};
 
-use std::io;
+use crate::tag::{NoTag, Tag};
+use reading::read_full;
 use std::io::Read;
+use std::{array, io};
 
 pub const SIZE: usize = 64;
 
-const BYTE: usize = 256;
+#[derive(Clone, Copy, Default, PartialEq, Eq)]
+pub struct Row(pub [u8; SIZE]);
 
-const SHORT: u64 = 65536;
-
-// What was read: a record, or less where the file ends.
-#[derive(Clone, Copy)]
-pub struct Row {
-    pub bytes: [u8; 64],
-    pub whole: bool,
-}
-
-// Reads until buf is full or the input ends, and returns how many bytes it put at the start of buf.
-fn read_full<R: Read>(input: &mut R, buf: &mut [u8]) -> io::Result<usize>
-    ensures in_bounds { ReadsAtMost result buf.new }
-    ensures bytes { IfOk result (λ n. Consumes (R.remaining input.old) (R.remaining input.new) (take n buf.new)) }
-    ensures end { IfOk result (λ n. n < length buf.new → IsAtEnd (R.remaining input.new)) }
-{
-    let mut done: usize = 0;
-    while done < buf.len() {
-        let n = input.read(&mut buf[done..])?;
-        if n == 0 {
-            break;
-        }
-        done += n;
-    }
-    Ok(done)
-}
-
-// A whole record is the next bytes of the input. It is not whole where there were not so many, and then none is left.
-pub fn read<R: Read>(input: &mut R) -> io::Result<Row>
-    ensures bytes { IfOk result (λ r. r.whole ≡ true → Consumes (R.remaining input.old) (R.remaining input.new) r.bytes) }
-    ensures short { IfOk result (λ r. r.whole ≡ false → IfSome (R.remaining input.old) (λ xs. length xs < 64)) }
-    ensures end { IfOk result (λ r. r.whole ≡ false → IsAtEnd (R.remaining input.new)) }
+// The next record, or None where the input has not so many bytes, and then none is left.
+pub fn read<R: Read>(input: &mut R) -> io::Result<Option<Row>>
+    ensures bytes { IfOk result (λ r. IfSome r (λ row. Consumes (R.remaining input.old) (R.remaining input.new) row.0)) }
+    ensures short { IfOk result (λ r. IfNone r (IfSome (R.remaining input.old) (λ xs. length xs < 64))) }
+    ensures end { IfOk result (λ r. IfNone r (IsAtEnd (R.remaining input.new))) }
 {
     let mut bytes = [0u8; SIZE];
-    let n = read_full(input, &mut bytes)?;
-    Ok(Row {
-        bytes: bytes,
-        whole: n == SIZE,
-    })
+    if read_full(input, &mut bytes)? < SIZE {
+        return Ok(None);
+    }
+    Ok(Some(Row(bytes)))
 }
 
 // Whether nothing is left to read.
@@ -61,162 +36,92 @@ pub fn at_end<R: Read>(input: &mut R) -> io::Result<bool>
     Ok(n == 0)
 }
 
-// A byte of a slice.
-pub fn get(s: &[u8], at: usize) -> u8 {
-    if at < s.len() {
-        return s[at];
+impl Row {
+    pub fn byte(self, at: usize) -> u8
+        ensures { result ≡ slice_index_or self.0 at 0 }
+    {
+        self.0.get(at).copied().unwrap_or(0)
     }
-    0
-}
 
-pub fn byte(row: [u8; 64], at: usize) -> u8 {
-    if at < SIZE {
-        return row[at];
+    // The N bytes from a place on.
+    pub fn bytes<const N: usize>(self, at: usize) -> [u8; N] {
+        array::from_fn(|i| self.byte(at.saturating_add(i)))
     }
-    0
-}
 
-pub fn put(mut out: [u8; 64], at: usize, b: u8) -> [u8; 64] {
-    if at < SIZE {
-        out[at] = b;
+    // Kept: one for each size, here and in `put_short` and `put_long`, since no trait of the library has `from_le_bytes`.
+    pub fn short(self, at: usize) -> u16 {
+        u16::from_le_bytes(self.bytes(at))
     }
-    out
-}
 
-// Four bytes, one after the other.
-pub fn put_4(out: [u8; 64], at: usize, a: u8, b: u8, c: u8, d: u8) -> [u8; 64]
-    requires { at < 64 }
-{
-    let first = put(put(out, at, a), at + 1, b);
-    put(put(first, at + 2, c), at + 3, d)
-}
-
-pub fn wide(b: u8) -> usize
-    ensures { result < 256 }
-{
-    b as usize
-}
-
-// A byte as a number.
-pub fn small(row: [u8; 64], at: usize) -> usize
-    ensures { result < 256 }
-{
-    wide(byte(row, at))
-}
-
-pub fn short(row: [u8; 64], at: usize) -> usize
-    requires { at < 64 }
-    ensures { result < 65536 }
-{
-    small(row, at) + BYTE * small(row, at + 1)
-}
-
-pub fn put_short(out: [u8; 64], at: usize, x: usize) -> [u8; 64]
-    requires { at < 64 }
-{
-    put(
-        put(out, at, (x % BYTE) as u8),
-        at + 1,
-        (x / BYTE % BYTE) as u8,
-    )
-}
-
-// Four bytes as a number.
-fn half(row: [u8; 64], at: usize) -> u64
-    requires { at < 62 }
-{
-    short(row, at) as u64 | ((short(row, at + 2) as u64) << 16)
-}
-
-pub fn long(row: [u8; 64], at: usize) -> u64
-    requires { at < 58 }
-{
-    half(row, at) | (half(row, at + 4) << 32)
-}
-
-fn put_half(out: [u8; 64], at: usize, x: u64) -> [u8; 64]
-    requires { at < 62 }
-{
-    put_short(
-        put_short(out, at, (x % SHORT) as usize),
-        at + 2,
-        (x / SHORT % SHORT) as usize,
-    )
-}
-
-pub fn put_long(out: [u8; 64], at: usize, x: u64) -> [u8; 64]
-    requires { at < 58 }
-{
-    put_half(put_half(out, at, x), at + 4, x >> 32)
-}
-
-// Copies n bytes of a slice: inputs, or an answer's bytes. Where there are not so many, or no room for them, it copies none.
-pub fn copy(src: &[u8], from: usize, mut out: [u8; 64], to: usize, n: usize) -> [u8; 64] {
-    let taken = part(src, from, n);
-    if SIZE < to {
-        return out;
+    pub fn long(self, at: usize) -> u64 {
+        u64::from_le_bytes(self.bytes(at))
     }
-    if SIZE - to < taken.len() {
-        return out;
+
+    // The n bytes from a place on, and none where there are not so many.
+    pub fn part(&self, at: usize, n: usize) -> &[u8] {
+        self.0.get(at..at.saturating_add(n)).unwrap_or(&[])
     }
-    out[to..to + taken.len()].copy_from_slice(taken);
-    out
-}
 
-// The first input's place, after the tag and the refusal.
-fn inputs_at(tag: u8) -> usize
-    ensures { result < 4 }
-{
-    if tag == 12 { 3 } else { 2 }
-}
-
-// How many bytes of inputs there are from there on. A resume's other card and the entries of a record are copied with their answers.
-fn n_inputs(tag: u8) -> usize
-    ensures { result < 64 }
-{
-    match tag {
-        1 => 54,
-        2 => 10,
-        3 | 4 => 6,
-        6 => 2,
-        8 => 0,
-        12 => 9,
-        14 => 3,
-        _ => 1,
+    pub fn tag(self) -> Result<Tag, NoTag> {
+        Tag::try_from(self.byte(0))
     }
-}
 
-// A record's tag and inputs, and 0 in the other bytes.
-pub fn inputs(row: [u8; 64], tag: u8) -> [u8; 64] {
-    let at = inputs_at(tag);
-    copy(&row, at, put([0u8; SIZE], 0, tag), at, n_inputs(tag))
-}
-
-// The n bytes from a on, and none where there are not so many.
-pub fn part(s: &[u8], a: usize, n: usize) -> &[u8] {
-    if s.len() < a {
-        return &s[..0];
-    }
-    if s.len() - a < n {
-        return &s[..0];
-    }
-    &s[a..a + n]
-}
-
-// Whether all bytes are b. There are at most 128.
-pub fn all_are(s: &[u8], b: u8) -> bool {
-    let want = [b; 128];
-    check::same(s, part(&want, 0, s.len()))
-}
-
-// The first byte in which the record and the answer differ, and SIZE where there is none.
-pub fn difference(row: [u8; 64], out: [u8; 64]) -> usize {
-    let mut i: usize = 0;
-    while i < SIZE {
-        if row[i] != out[i] {
-            return i;
+    pub fn put(mut self, at: usize, b: u8) -> Row
+        ensures { result.0 ≡ slice_set self.0 at b }
+    {
+        if at < SIZE {
+            self.0[at] = b;
         }
-        i += 1;
+        self
     }
-    i
+
+    // Bytes one after the other.
+    pub fn put_all(mut self, at: usize, bytes: &[u8]) -> Row {
+        for (place, b) in self.0.iter_mut().skip(at).zip(bytes) {
+            *place = *b;
+        }
+        self
+    }
+
+    pub fn put_short(self, at: usize, x: u16) -> Row {
+        self.put_all(at, &x.to_le_bytes())
+    }
+
+    // The low two bytes of a number.
+    pub fn put_size(self, at: usize, n: usize) -> Row {
+        self.put_all(at, &n.to_le_bytes()[..2])
+    }
+
+    pub fn put_long(self, at: usize, x: u64) -> Row {
+        self.put_all(at, &x.to_le_bytes())
+    }
+
+    // The record's tag and inputs, and 0 in the other bytes.
+    pub fn inputs(self) -> Row {
+        let (at, n) = inputs(self.tag());
+        Row::default()
+            .put(0, self.byte(0))
+            .put_all(at, self.part(at, n))
+    }
+
+    // The first byte in which the record and the answer differ.
+    pub fn difference(self, other: Row) -> Option<usize> {
+        self.0.iter().zip(&other.0).position(|(a, b)| a != b)
+    }
+}
+
+// The first input's place, after the tag and the refusal, and how many bytes of inputs there are from there on.
+// A resume's other card and the entries of a record are copied with their answers.
+fn inputs(tag: Result<Tag, NoTag>) -> (usize, usize) {
+    match tag {
+        Ok(Tag::Deal) => (2, 54),
+        Ok(Tag::Resume) => (2, 10),
+        Ok(Tag::Move | Tag::Undo) => (2, 6),
+        Ok(Tag::Listing) => (2, 2),
+        Ok(Tag::View) => (2, 0),
+        Ok(Tag::Ladder) => (3, 9),
+        Ok(Tag::Set) => (2, 3),
+        Ok(Tag::Masks | Tag::Piles | Tag::Tests | Tag::Finds | Tag::Offsets | Tag::Cursors)
+        | Err(NoTag) => (2, 1),
+    }
 }

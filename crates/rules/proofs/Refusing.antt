@@ -12,6 +12,9 @@ use Rattle.rules.specs.Bits.{num}
 use Rattle.rules.specs.Proper.{are_cards, are_different, step_right}
 use Rattle.rules.specs.Refusals.{◌refuses◌else◌, accepted, wrong_step, wrong_length, no_card, same_card}
 use Rattle.rules.specs.Answers.{deal_refusal}
+use Rattle.rules.specs.declared.Refusal.{Refusal}
+use Rattle.rules.specs.declared.Refusal.TheVariants.{WrongStep, WrongLength, NoCard, SameCard, WrongHeight, WrongPiles, WrongOffset, Overlapping, Unarranged, NoSuchMove, NotLegal, HistoryFull, NothingToUndo, WrongCount, WrongEntry, NotProper, TooShort}
+use Rattle.rules.specs.Results.{number}
 
 pub refuses_same : (a b : Bool) (n x y : ℕ) → a ≡ b → (a ≡ false → x ≡ y) → (a refuses n else x) ≡ (b refuses n else y)
 refuses_same true true n x y e h = refl
@@ -81,3 +84,23 @@ deal_first d step x = four_first (step_right step) (eqb (length d) 52) (are_card
 pub deal_tests : (d : List ℕ) (step : ℕ) (a b c e : Bool) → step_right step ≡ a → eqb (length d) 52 ≡ b → are_cards d ≡ c → are_different d ≡ e → four a b c e 0 ≡ deal_refusal d step
 unfolding deal_refusal
 deal_tests d step a b c e ea eb ec ee = rw (ea, eb, ec, ee)
+
+-- a refusal has a number, so what is accepted doesn't count
+pub refused : {A : Type 0} (e : Refusal) (new old : A) → accepted (number e) new old ≡ old
+refused WrongStep new old = refl
+refused WrongLength new old = refl
+refused NoCard new old = refl
+refused SameCard new old = refl
+refused WrongHeight new old = refl
+refused WrongPiles new old = refl
+refused WrongOffset new old = refl
+refused Overlapping new old = refl
+refused Unarranged new old = refl
+refused NoSuchMove new old = refl
+refused NotLegal new old = refl
+refused HistoryFull new old = refl
+refused NothingToUndo new old = refl
+refused WrongCount new old = refl
+refused WrongEntry new old = refl
+refused NotProper new old = refl
+refused TooShort new old = refl

@@ -1,3 +1,3 @@
-pub mod Lines
+pub mod Hex
 pub mod Texts
 pub mod Cut

@@ -1,14 +1,12 @@
--- What is to be printed, by the answer of the deal; its length.
+-- What is to be printed, by the answer of the deal.
 -- Assumes nothing.
 use mathlib.Core.Bool.{Bool, true, false, not}
 use mathlib.Core.Path.{◌≡◌, refl, sym, ap, ◌∙◌, subst}
-use mathlib.Core.List.{List, [], ◌∷◌, ◌++◌}
-use Prim.Native.Nat.{ℕ, zero, suc, ◌-◌, ◌≤◌, ◌<◌}
-use native.Mathlib.Nat.{zero-add}
+use mathlib.Core.List.{List, [], ◌∷◌}
+use Prim.Native.Nat.{ℕ, zero, suc, ◌<◌}
 use native.Mathlib.Omega.{arith}
 use lib.Dec.{T, eqb}
-use lib.ListN.{length, get_or, take, drop, length-drop}
-use lib.Seq.{take_all, sets, sets-eq}
+use lib.ListN.{length}
 use Rattle.rules.specs.declared.Position.{Position}
 use Rattle.rules.specs.declared.Started.{Started}
 use Rattle.rules.specs.Code.{code, fresh}
@@ -16,7 +14,7 @@ use Rattle.rules.specs.Fields.{blank}
 use Rattle.rules.specs.Legal.{unpruned}
 use Rattle.rules.specs.Proper.{step_right, are_cards, are_different, proper}
 use Rattle.rules.specs.Answers.{◌refuses◌else◌, accepted, deal_refusal, deal_answer, save_answer, masks_answer, masks_for, improper}
-use Rattle.rules.specs.Show.{digits, hex_line, masks_text, shown, refused_line, show_text}
+use Rattle.rules.specs.Show.{shown, refused_line, show_text}
 use Rattle.bits.proofs.Tables.{T_true}
 use Rattle.facts.proofs.FreshProper.{fresh_proper}
 
@@ -53,46 +51,26 @@ numbered : (r : ℕ) (p q : Position) → (accepted {A = Started} r (record { re
 numbered zero p q = refl
 numbered (suc r) p q = refl
 
-begun : (r : ℕ) (s t : Started) → r ≡ 0 → accepted r s t ≡ s
-begun zero s t e = refl
-begun (suc r) s t e = absurd (omega arith)
-
-printed : (r : ℕ) (v w : List ℕ) → r ≡ 0 → accepted r v w ≡ v
-printed zero v w e = refl
-printed (suc r) v w e = absurd (omega arith)
+taken : {A : Type 0} (r : ℕ) (v w : A) → r ≡ 0 → accepted r v w ≡ v
+taken zero v w e = refl
+taken (suc r) v w e = absurd (omega arith)
 
 declined : (r : ℕ) (v w : List ℕ) → (r ≡ 0 → ⊥) → accepted r v w ≡ w
 declined zero v w h = absurd (h refl)
 declined (suc r) v w h = refl
 
--- of some input: the deal is all but its first byte
-module _ (l : List ℕ) (some : 0 < length l) (s : Started) (told : s ≡ deal_answer (take (length l - 1) (drop 1 l)) (get_or l 0 0)) where
-  abbrev deal : List ℕ
-  deal = take (length l - 1) (drop 1 l)
-
-  abbrev step : ℕ
-  step = get_or l 0 0
-
+-- of some input: its first byte is the step, and the deal is the others
+module _ (deal : List ℕ) (step : ℕ) (s : Started) (told : s ≡ deal_answer deal step) where
   number : s.refusal ≡ deal_refusal deal step
   unfolding deal_answer
   number = ap (λ (t : Started). t.refusal) told ∙ numbered (deal_refusal deal step) (fresh deal step) blank
 
-  rest : deal ≡ drop 1 l
-  rest = take_all (length l - 1) (drop 1 l) (omega (arith, length-drop 1 l))
-
-  of_some : show_text l ≡ accepted (deal_refusal deal step) (shown (fresh deal step)) (refused_line (deal_refusal deal step))
-  unfolding show_text
-  of_some = rw rest (by_cases l some)
-    where
-      by_cases : (l : List ℕ) → 0 < length l → show_text l ≡ accepted (deal_refusal (drop 1 l) (get_or l 0 0)) (shown (fresh (drop 1 l) (get_or l 0 0))) (refused_line (deal_refusal (drop 1 l) (get_or l 0 0)))
-      by_cases [] h = absurd (omega arith)
-      by_cases (a ∷ l) h = refl
-
   pub low : s.refusal < 10
   low = omega (arith, number, refusal_low deal step)
 
-  pub refused_text : (s.refusal ≡ 0 → ⊥) → show_text l ≡ refused_line s.refusal
-  refused_text h = of_some ∙ declined (deal_refusal deal step) _ _ (λ e. h (number ∙ e)) ∙ sym (ap refused_line number)
+  pub refused_text : (s.refusal ≡ 0 → ⊥) → show_text (step ∷ deal) ≡ refused_line s.refusal
+  unfolding show_text
+  refused_text h = declined (deal_refusal deal step) _ _ (λ e. h (number ∙ e)) ∙ sym (ap refused_line number)
 
   module _ (ok : s.refusal ≡ 0) where
     right : deal_refusal deal step ≡ 0
@@ -100,24 +78,11 @@ module _ (l : List ℕ) (some : 0 < length l) (s : Started) (told : s ≡ deal_a
 
     started : s.position ≡ fresh deal step
     unfolding deal_answer
-    started = ap (λ (t : Started). t.position) (told ∙ begun (deal_refusal deal step) _ _ right)
+    started = ap (λ (t : Started). t.position) (told ∙ taken (deal_refusal deal step) _ _ right)
 
     pub is_proper_lem : T (proper s.position)
     is_proper_lem = subst (λ (t : Started). T (proper t.position)) (sym told) (fresh_proper deal step (sym (ap (λ (t : Started). t.refusal) told) ∙ ok)).1
 
-    pub shown_text : show_text l ≡ shown s.position
-    shown_text = of_some ∙ printed (deal_refusal deal step) _ _ right ∙ sym (ap shown started)
-
-pub shown_length : (p : Position) → length (shown p) ≡ 102
-unfolding shown masks_text hex_line digits
-shown_length p = refl
-
-pub refused_length : (n : ℕ) → length (refused_line n) ≡ 10
-unfolding refused_line
-refused_length n = refl
-
--- what is written from the start on is the front
-pub at_front : (o x : List ℕ) (r : ℕ) (l w : List ℕ) (n : ℕ) → length w ≡ n → n ≤ length o → show_text l ≡ w → (r ≡ n) × (x ≡ sets o 0 w)
-    → (r ≡ length (show_text l)) × (x ≡ show_text l ++ drop r o)
-at_front o x r l w n h f e g =
-    rw e (g.0 ∙ sym h, g.1 ∙ sets-eq w o 0 (omega arith) ∙ ap (λ (k : ℕ). w ++ drop k o) (zero-add (length w) ∙ h ∙ sym g.0))
+    pub shown_text : show_text (step ∷ deal) ≡ shown s.position
+    unfolding show_text
+    shown_text = taken (deal_refusal deal step) _ _ right ∙ sym (ap shown started)

@@ -56,10 +56,8 @@ pub fn foundation_mask(heights: &[u8; 4]) -> u64
     ensures { result ≡ mask_of 52 (stacked_on heights.now) }
 {
     let mut mask: u64 = 0;
-    let mut s: usize = 0;
-    while s < card::N_SUITS {
-        mask |= card::suit_mask(s) & ((1u64 << (4 * heights[s])) - 1);
-        s += 1;
+    for (suit, height) in heights.iter().enumerate() {
+        mask |= card::suit_mask(suit) & full_mask(4 * (*height as u32));
     }
     mask
 }

@@ -14,25 +14,19 @@ const FIELD: u32 = 16;
 
 const LOW: u16 = 15;
 
-// Does each height lie from low to high?
+// Does each height lie from low to high? No branch is taken: the tests are few, and mostly all hold.
 fn all_within(heights: [u8; 4], low: u8, high: u8) -> bool
     ensures { result ≡ all_of 4 (λ s. leb low (get_or heights s 0) && leb (get_or heights s 0) high) }
 {
-    let a = heights[0];
-    let b = heights[1];
-    let c = heights[2];
-    let d = heights[3];
-    (low <= a)
-        & (a <= high)
-        & (low <= b)
-        & (b <= high)
-        & (low <= c)
-        & (c <= high)
-        & (low <= d)
-        & (d <= high)
+    let mut all = true;
+    for height in &heights {
+        all &= (low <= *height) & (*height <= high);
+    }
+    all
 }
 
 // Is each height one that a foundation can have?
+#[tactic(auto, using(crate::proofs::Within::from_zero), unfolding(rules::specs::Foundations::valid_on))]
 pub fn is_valid(heights: [u8; 4]) -> bool
     ensures { result ≡ valid_on heights }
 {
@@ -40,6 +34,7 @@ pub fn is_valid(heights: [u8; 4]) -> bool
 }
 
 // Is every foundation full?
+#[tactic(auto, using(crate::proofs::Within::just), unfolding(rules::specs::Foundations::full_on))]
 pub fn is_full(heights: [u8; 4]) -> bool
     ensures { result ≡ full_on heights }
 {
@@ -47,6 +42,7 @@ pub fn is_full(heights: [u8; 4]) -> bool
 }
 
 // Is every foundation empty? Ported, and called by nothing.
+#[tactic(auto, using(crate::proofs::Within::just), unfolding(rules::specs::Foundations::empty_on))]
 pub fn is_empty(heights: [u8; 4]) -> bool
     ensures { result ≡ empty_on heights }
 {
@@ -64,6 +60,7 @@ fn weighed(heights: [u8; 4], radix: u32) -> u32
 }
 
 // How many cards are on the foundations. Ported, and called by nothing.
+#[tactic(auto, unfolding(rules::specs::Foundations::cards_on))]
 pub fn len(heights: [u8; 4]) -> u32
     ensures { result ≡ cards_on heights }
 {
@@ -71,6 +68,7 @@ pub fn len(heights: [u8; 4]) -> u32
 }
 
 // The heights' field of the save code.
+#[tactic(auto, unfolding(rules::specs::Foundations::field_on))]
 pub fn encode(heights: [u8; 4]) -> u32
     ensures { result ≡ field_on heights }
 {

@@ -1,32 +1,25 @@
-use Rattle.std.proofs.Common.{◌<◌, length, arith}
-use Rattle.rules.specs.Show.{shown, refused_line}
-use Rattle.show.proofs.Texts.{at_front, of_none, low, refused_text, is_proper_lem, shown_text, shown_length, refused_length}
+use Rattle.std.proofs.Common.{◌∙◌, sym, ap, subst}
+use Rattle.std.specs.Io.KnownBytes.{Appends}
+use Rattle.std.proofs.lemmas.Result.{on_ok_weaker}
+use Rattle.rules.specs.Show.{show_text}
+use Rattle.show.proofs.Texts.{of_none, low, refused_text, is_proper_lem, shown_text}
 use Rattle.show.proofs.text.Goals as goal
 
-pub returns-then-input-eq0 : goal.returns-then-input-eq0
-returns-then-input-eq0 c =
-    at_front c.args.out.now _ _ c.args.input.now (refused_line 2) 10 (refused_length 2) (omega arith) (of_none c.args.input.now c.if-input-eq0.true) c.refused.ensures
+pub returns-in_default : goal.returns-in_default
+returns-in_default g c = on_ok_weaker _ (subst (Appends _ _) (sym (of_none _ c.in_default.ensures.cases))) c.refused.ensures
 
 pub refused-requires-then-s-ne0 : goal.refused-requires-then-s-ne0
-refused-requires-then-s-ne0 c =
-    let d = c.deal-s in
-    let some : 0 < length c.args.input.now = omega arith in
-    (low c.args.input.now some d.result d.ensures, omega arith)
+refused-requires-then-s-ne0 g c = low _ _ _ c.gravyhelm_deal-s.ensures.0
 
 pub returns-then-s-ne0 : goal.returns-then-s-ne0
-returns-then-s-ne0 c =
-    let d = c.deal-s in
-    let some : 0 < length c.args.input.now = omega arith in
-    at_front c.args.out.now _ _ c.args.input.now (refused_line d.result.refusal) 10 (refused_length d.result.refusal) (omega arith) (refused_text c.args.input.now some d.result d.ensures c.if-s-ne0.true) c.refused-then-s-ne0.ensures
+returns-then-s-ne0 g c =
+    let told = refused_text _ _ _ c.gravyhelm_deal-s.ensures.0 c.if-s-ne0.true in
+    on_ok_weaker _ (subst (Appends _ _) (sym (ap show_text c.in-Some.ensures.cases.0 ∙ told))) c.refused-then-s-ne0.ensures
 
 pub shown-requires : goal.shown-requires
-shown-requires c =
-    let d = c.deal-s in
-    let some : 0 < length c.args.input.now = omega arith in
-    (is_proper_lem c.args.input.now some d.result d.ensures c.if-s-ne0.false, omega arith)
+shown-requires g c = is_proper_lem _ _ _ c.gravyhelm_deal-s.ensures.0 c.if-s-ne0.false
 
 pub returns : goal.returns
-returns c =
-    let d = c.deal-s in
-    let some : 0 < length c.args.input.now = omega arith in
-    at_front c.args.out.now _ _ c.args.input.now (shown d.result.position) 102 (shown_length d.result.position) (omega arith) (shown_text c.args.input.now some d.result d.ensures c.if-s-ne0.false) c.shown.ensures
+returns g c =
+    let told = shown_text _ _ _ c.gravyhelm_deal-s.ensures.0 c.if-s-ne0.false in
+    on_ok_weaker _ (subst (Appends _ _) (sym (ap show_text c.in-Some.ensures.cases.0 ∙ told))) c.shown.ensures

@@ -1,6 +1,0 @@
--- `put_front` ends, since each turn comes closer to the last slot.
-use Rattle.std.proofs.Common.{◌-◌}
-use Rattle.replay_rows.proofs.laid.put_front.Given as goal
-
-abbrev pub decreases-loop-i : goal.decreases-loop-i
-decreases-loop-i l = 28 - l.i
