@@ -12,6 +12,8 @@ use mir.Val.{Val}
 use denote.Laws.{Is}
 use denote.Struct.Laws as LL
 use Rattle.rules.specs.declared.Masks.{Masks}
+use Rattle.rules.specs.Moves.{mask_by_mask}
+use Rattle.moves.specs.Each.{EachMask}
 use Rattle.rules.specs.contracts.Masks as T
 use Rattle.rules.proofs.Masks.TheLaws as T'
 
@@ -42,3 +44,14 @@ or_none (suc a) b = ne_eqb (bit_or (suc a) b) 0 (λ e. omega (arith, or_add_and 
 pub each : {a b c d e a' b' c' d' e' : ℕ} → a ≡ a' → b ≡ b' → c ≡ c' → d ≡ d' → e ≡ e'
     → ◌≡◌ {A = Masks} (record { reveal = a; pile_stack = b; deck_pile = c; deck_stack = d; stack_pile = e }) (record { reveal = a'; pile_stack = b'; deck_pile = c'; deck_stack = d'; stack_pile = e' })
 each p q r s t = cc
+
+-- two operations that agree on masks, mask by mask
+pub by_mask : (f g : ℕ → ℕ → ℕ) → ((x y : ℕ) → x < 2 ^ 64 → y < 2 ^ 64 → f x y ≡ g x y) → (m n r : Masks) → Sized m → Sized n → EachMask (λ x y z. z ≡ f x y) m n r → r ≡ mask_by_mask g m n
+unfolding mask_by_mask
+by_mask f g same m n r a b e =
+    each
+    (e.0 ∙ same m.reveal n.reveal a.reveal b.reveal)
+    (e.1 ∙ same m.pile_stack n.pile_stack a.pile_stack b.pile_stack)
+    (e.2 ∙ same m.deck_pile n.deck_pile a.deck_pile b.deck_pile)
+    (e.3 ∙ same m.deck_stack n.deck_stack a.deck_stack b.deck_stack)
+    (e.4 ∙ same m.stack_pile n.stack_pile a.stack_pile b.stack_pile)

@@ -1,25 +1,12 @@
 -- What the closure gives for each mask is that of the definition.
-use Rattle.std.proofs.Common.{◌≡◌, ℕ, ◌^◌, ◌<◌, bit_and, ◌-◌, ◌∙◌, rules}
+use Rattle.std.proofs.Common.{◌^◌, bit_and, ◌-◌, rules}
 use Rattle.rules.specs.Pruned.{◌∖◌}
-use Rattle.rules.specs.Moves.{mask_by_mask, filtered}
+use Rattle.rules.specs.Moves.{filtered}
 use Rattle.rules.proofs.Sets.{minus_is}
-use Rattle.moves.proofs.Sized.{sized, each}
+use Rattle.moves.proofs.Sized.{sized, by_mask}
 use Rattle.moves.proofs.filter.Goals as goal
 
-mask : (x y z : ℕ) → x < 2 ^ 64 → y < 2 ^ 64 → z ≡ bit_and x ((2 ^ 64 - 1) - y) → z ≡ (x ∖ y)
-mask x y z h l e = e ∙ minus_is x y h l
-
 pub returns : goal.returns
-unfolding mask_by_mask filtered
+unfolding filtered
 returns c =
-    let m = c.args.m in
-    let n = c.args.remove in
-    let a = sized m _ c.well_formed.0 in
-    let b = sized n _ c.well_formed.1.0 in
-    let r = c.mask_by_mask.result in
-    each
-    (mask m.reveal n.reveal r.reveal a.reveal b.reveal (search rules))
-    (mask m.pile_stack n.pile_stack r.pile_stack a.pile_stack b.pile_stack (search rules))
-    (mask m.deck_pile n.deck_pile r.deck_pile a.deck_pile b.deck_pile (search rules))
-    (mask m.deck_stack n.deck_stack r.deck_stack a.deck_stack b.deck_stack (search rules))
-    (mask m.stack_pile n.stack_pile r.stack_pile a.stack_pile b.stack_pile (search rules))
+    by_mask (λ x y. bit_and x ((2 ^ 64 - 1) - y)) (λ x y. x ∖ y) minus_is c.args.m c.args.remove c.mask_by_mask.result (sized c.args.m _ c.well_formed.0) (sized c.args.remove _ c.well_formed.1.0) (search rules, search rules, search rules, search rules, search rules)
