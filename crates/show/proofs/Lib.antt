@@ -1,3 +1,3 @@
-pub mod Hex
+pub mod Lines
 pub mod Texts
 pub mod Cut

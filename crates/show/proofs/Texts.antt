@@ -1,12 +1,14 @@
--- What is to be printed, by the answer of the deal.
+-- What is to be printed, by the answer of the deal; its length.
 -- Assumes nothing.
 use mathlib.Core.Bool.{Bool, true, false, not}
 use mathlib.Core.Path.{◌≡◌, refl, sym, ap, ◌∙◌, subst}
-use mathlib.Core.List.{List, [], ◌∷◌}
-use Prim.Native.Nat.{ℕ, zero, suc, ◌<◌}
+use mathlib.Core.List.{List, [], ◌∷◌, ◌++◌}
+use Prim.Native.Nat.{ℕ, zero, suc, ◌≤◌, ◌<◌}
+use native.Mathlib.Nat.{zero-add}
 use native.Mathlib.Omega.{arith}
 use lib.Dec.{T, eqb}
-use lib.ListN.{length}
+use lib.ListN.{length, drop}
+use lib.Seq.{sets, sets-eq}
 use Rattle.rules.specs.declared.Position.{Position}
 use Rattle.rules.specs.declared.Started.{Started}
 use Rattle.rules.specs.Code.{code, fresh}
@@ -14,7 +16,7 @@ use Rattle.rules.specs.Fields.{blank}
 use Rattle.rules.specs.Legal.{unpruned}
 use Rattle.rules.specs.Proper.{step_right, are_cards, are_different, proper}
 use Rattle.rules.specs.Answers.{◌refuses◌else◌, accepted, deal_refusal, deal_answer, save_answer, masks_answer, masks_for, improper}
-use Rattle.rules.specs.Show.{shown, refused_line, show_text}
+use Rattle.rules.specs.Show.{digits, hex_line, masks_text, shown, refused_line, show_text}
 use Rattle.bits.proofs.Tables.{T_true}
 use Rattle.facts.proofs.FreshProper.{fresh_proper}
 
@@ -86,3 +88,17 @@ module _ (deal : List ℕ) (step : ℕ) (s : Started) (told : s ≡ deal_answer 
     pub shown_text : show_text (step ∷ deal) ≡ shown s.position
     unfolding show_text
     shown_text = taken (deal_refusal deal step) _ _ right ∙ sym (ap shown started)
+
+pub shown_length : (p : Position) → length (shown p) ≡ 102
+unfolding shown masks_text hex_line digits
+shown_length p = refl
+
+pub refused_length : (n : ℕ) → length (refused_line n) ≡ 10
+unfolding refused_line
+refused_length n = refl
+
+-- what is written from the start on is the front
+pub at_front : (o x : List ℕ) (r : ℕ) (l w : List ℕ) (n : ℕ) → length w ≡ n → n ≤ length o → show_text l ≡ w → (r ≡ n) × (x ≡ sets o 0 w)
+    → (r ≡ length (show_text l)) × (x ≡ show_text l ++ drop r o)
+at_front o x r l w n h f e g =
+    rw e (g.0 ∙ sym h, g.1 ∙ sets-eq w o 0 (omega arith) ∙ ap (λ (k : ℕ). w ++ drop k o) (zero-add (length w) ∙ h ∙ sym g.0))

@@ -1,12 +1,19 @@
-use Rattle.std.proofs.KnownBytes.{Appends-trans}
-use Rattle.std.proofs.lemmas.Result.{on_ok_weaker}
+use Rattle.std.proofs.Common.{arith}
 use Rattle.rules.specs.Show.{masks_text}
+use Rattle.show.proofs.Lines.{Wrote, line, then}
 use Rattle.show.proofs.mask_lines.Goals as goal
 
 pub returns : goal.returns
 unfolding masks_text
-returns g c =
-    let two = Appends-trans _ _ _ _ _ c.in_ok-hex_line.ensures c.in_ok-hex_line-2.ensures in
-    let three = Appends-trans _ _ _ _ _ two c.in_ok-hex_line-3.ensures in
-    let four = Appends-trans _ _ _ _ _ three c.in_ok-hex_line-4.ensures in
-    on_ok_weaker _ (Appends-trans _ _ _ _ _ four) c.hex_line-5.ensures
+returns c =
+    let m = c.args.m in
+    let h1 = c.hex_line-a in
+    let h2 = c.hex_line-b in
+    let h3 = c.hex_line-c in
+    let h4 = c.hex_line-d in
+    let h5 = c.hex_line in
+    let w : Wrote c.args.out.now c.args.at h5.new.out h5.result (masks_text m) =
+    then
+    (then (then (then (line m.reveal h1.new.out h1.result h1.ensures) (line m.pile_stack h2.new.out h2.result h2.ensures)) (line m.deck_pile h3.new.out h3.result h3.ensures)) (line m.deck_stack h4.new.out h4.result h4.ensures))
+    (line m.stack_pile h5.new.out h5.result h5.ensures) in
+    (omega arith, w.over)

@@ -1,7 +1,10 @@
-use Rattle.std.proofs.lemmas.Fmt.{decimal_digit}
+use Rattle.std.proofs.Common.{refl, arith}
+use lib.Seq.{drop-cons, sets-eq}
 use Rattle.rules.specs.Show.{refused_line}
 use Rattle.show.proofs.refused.Goals as goal
 
 pub returns : goal.returns
 unfolding refused_line
-returns g c = rw (decimal_digit c.args.n c.requires) at c.writeln.ensures.bytes
+returns c =
+    let o = c.args.out.now in
+    (refl, rw (c.copy_from_slice.ensures.after, sets-eq (refused_line c.args.n) o 0 (omega arith), drop-cons o 8 0 (omega arith), drop-cons o 9 0 (omega arith)))
