@@ -8,12 +8,14 @@ use native.Mathlib.Nat.{le_of_suc-le-suc}
 use native.Mathlib.Numerals.{add-one}
 use native.Mathlib.Omega.{arith}
 use lib.ListN.{length, get_or, take, drop, set, replicate, length-append, length-drop, length-replicate, replicate-append-replicate}
-use lib.Seq.{length-take-le, take_all, take-suc, take_at, drop_at, set_at, take-add, drop-append-add, append_snoc, paste}
+use lib.Seq.{length-take-le, drop-drop, take_all, take-suc, take_at, drop_at, set_at, split_at, get_or-take, take-take, take-add, drop-append-add, append_snoc, paste}
+use borrow.Rule.Slice.PartMut.{mid_of, put_mid}
 use Rattle.std.proofs.Common.{ltb, Some, None, unwrap_or}
 use Rattle.std.proofs.lemmas.Bool.Decides.{nat_tests}
 use Rattle.std.specs.List.{position_or_len}
 use Rattle.rules.specs.Bits.{first_of}
-use Rattle.rules.specs.Play.{slots}
+use Rattle.rules.specs.Play.{slots, draw_at, push_at}
+use Rattle.rules.proofs.SlotsLaw.{slots_front}
 
 -- the first j slots hold what xs has there, the others 0
 unfoldable pub filled : List ℕ → ℕ → List ℕ
@@ -46,6 +48,14 @@ pub padded : (xs : List ℕ) (j : ℕ) → length xs ≡ j → j ≤ 24 → slot
 unfolding filled
 padded xs j e l = sym (fill_end xs j e l) ∙ ap (λ (l : List ℕ). l ++ replicate (24 - j) 0) (take_all j xs (omega arith))
 
+-- a part of d, copied over a part of s that is as long
+pub pasted : (d s : List ℕ) (from to n : ℕ) → from + n ≤ length d → to + n ≤ length s → put_mid to (to + n - to) s (mid_of from (from + n - from) d) ≡ paste s to (drop from d) n
+pasted d s from to n hd hs =
+    let src : List ℕ = take n (drop from d) in
+    let here : from + n - from ≡ n = omega arith in
+    let there : to + n - to ≡ n = omega arith in
+    rw (here, there) (ap (λ (r : List ℕ). take to s ++ (src ++ r)) (drop-drop n to s) ∙ sym (append_assoc (take to s) src (drop (to + n) s)))
+
 -- cards copied behind those in front of a deck's slots
 pub copied : (ys d : List ℕ) (from to n : ℕ) → length ys ≡ to → from + n ≤ length d → to + n ≤ 24 → paste (slots ys) to (drop from d) n ≡ slots (ys ++ take n (drop from d))
 copied ys d from to n e h m =
@@ -72,6 +82,33 @@ pub behind : (d : List ℕ) (k n : ℕ) → k ≤ n → n ≤ length d → take 
 behind d k n h l =
     let both : n ≡ k + (n - k) = omega arith in
     sym (ap (λ (m : ℕ). drop k (take m d)) both ∙ ap (drop k) (take-add k (n - k) d) ∙ drop_at (take k d) (take (n - k) (drop k d)) k (length-take-le k d (omega arith)))
+
+-- ---- a card out at place k of the first n
+
+module _ (d : List ℕ) (n k : ℕ) (h : k < n) (m : n ≤ 24) (l : n ≤ length d) where
+  front_length : length (take k d) ≡ k
+  front_length = length-take-le k d (omega arith)
+
+  pub draw_length : length (draw_at d n k) ≡ n - 1
+  draw_length = length-append (take k d) (drop (k + 1) (take n d)) ∙ omega (arith, front_length, length-drop (k + 1) (take n d), length-take-le n d l)
+
+  -- the card that went out, put in where it was: the cards are back
+  pub back : slots (push_at (slots (draw_at d n k)) (n - 1) k (get_or d k 0)) ≡ slots (take n d)
+  back =
+      let xs : List ℕ = draw_at d n k in
+      let ys : List ℕ = take n d in
+      let rest : List ℕ = drop (k + 1) ys in
+      let low : k < length ys = omega (arith, length-take-le n d l) in
+      let front : take k (slots xs) ≡ take k d =
+      sym (take-take k (n - 1) (slots xs) (omega arith)) ∙ ap (take k) whole ∙ take_at (take k d) rest k front_length in
+      let after : drop k (take (n - 1) (slots xs)) ≡ rest = ap (drop k) whole ∙ drop_at (take k d) rest k front_length in
+      ap slots
+      (ap₂ (λ (a b : List ℕ). a ++ get_or d k 0 ∷ b) (front ∙ sym (take-take k n d (omega arith))) after
+      ∙ ap₂ (λ (x m : ℕ). take k ys ++ x ∷ drop m ys) (sym (get_or-take n d k 0 h)) (add-one k)
+      ∙ sym (split_at ys k 0 low))
+    where
+      whole : take (n - 1) (slots (draw_at d n k)) ≡ draw_at d n k
+      whole = slots_front (draw_at d n k) (n - 1) draw_length (omega arith)
 
 -- ---- a search among the first n cards
 

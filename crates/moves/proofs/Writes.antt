@@ -6,8 +6,8 @@ use mathlib.Core.List.{List, [], ◌∷◌, ◌++◌}
 use Prim.Native.Nat.{ℕ, suc, ◌+◌, ◌*◌, ◌^◌, ◌≤◌, ◌<◌}
 use native.Mathlib.Nat.{add-zero, zero-add, add-suc, suc-add}
 use native.Mathlib.Omega.{arith}
-use lib.ListN.{length, drop, set, length-append}
-use lib.Seq.{sets, sets-eq}
+use lib.ListN.{length, take, drop, set, length-append}
+use lib.Seq.{sets, sets-eq, take-append_seam}
 use borrow.Author.Tests.{lt-ltb, le-ltb}
 use Rattle.bits.specs.Bit.{bit, count_of, list_of}
 use Rattle.rules.specs.declared.Masks.{Masks}
@@ -60,3 +60,8 @@ pub too_short_lem : (m : Masks) → CardMasks m → (o : List ℕ) → length o 
     → (◌≡◌ {A = ℕ} 0 (length (fitting m (length o)))) × (o ≡ listed_over m o)
 unfolding listed_over fitting
 too_short_lem m h o l = rw (lt-ltb (length o) (length (listing m)) (omega (arith, listing_length m h))) (refl, refl)
+
+-- the written front
+pub front : (m : Masks) (o x : List ℕ) (n : ℕ) → n ≡ length (fitting m (length o)) → x ≡ listed_over m o → take n x ≡ fitting m (length o)
+unfolding listed_over
+front m o x n e f = rw (e, f) (take-append_seam (fitting m (length o)) (drop (length (fitting m (length o))) o))

@@ -4,3 +4,4 @@ pub mod Taken
 pub mod EachKind
 pub mod Ways
 pub mod Same
+pub mod Answered

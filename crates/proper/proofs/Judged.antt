@@ -1,7 +1,7 @@
--- What the judgement says of a position, as the first step of a call.
+-- What the judgement says of a position, as a yes or no and as the first step of a call.
 -- Assumes nothing.
-use mathlib.Core.Bool.{true, false}
-use mathlib.Core.Path.{◌≡◌, ap, ◌∙◌, subst}
+use mathlib.Core.Bool.{Bool, true, false}
+use mathlib.Core.Path.{◌≡◌, sym, ap, ◌∙◌, subst}
 use lib.Dec.{T}
 use Rattle.std.proofs.Common.{Result, Err}
 use Rattle.std.specs.Result.{IsErrAnd}
@@ -12,6 +12,17 @@ use Rattle.rules.specs.declared.Position.{Position}
 use Rattle.rules.specs.declared.Refusal.{Refusal}
 use Rattle.rules.specs.declared.Refusal.TheVariants.{NotProper}
 use Rattle.rules.specs.Proper.{proper}
+
+-- what the answer of `is_proper` says
+module _ (p : Position) {r : Bool} (e : r ≡ proper p) where
+  pub is_wrong : r ≡ false → proper p ≡ false
+  is_wrong h = sym e ∙ h
+
+  pub is_right : r ≡ true → proper p ≡ true
+  is_right h = sym e ∙ h
+
+  pub is_proper_lem : r ≡ true → T (proper p)
+  is_proper_lem h = subst T (sym (is_right h)) tt
 
 pub right : (j : Judged) → proper j.position ≡ true
 right j = T_true (proper j.position) j.good
