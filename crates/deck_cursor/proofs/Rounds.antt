@@ -16,8 +16,15 @@ ceil step x = div_ceil x step
 
 module _ (len step : ℕ) (sp : 0 < step) where
   -- a step fewer does not reach the end of x; all of them do
-  ceil_low : (n x : ℕ) → n ≤ ceil step x → step * n < x + step
+  pub ceil_low : (n x : ℕ) → n ≤ ceil step x → step * n < x + step
   ceil_low n x h = omega (arith, mul-le-mul_left step h, mul_comm step (ceil step x), (div_ceil_times x step sp).1)
+
+  -- what whole rounds leave is no longer than a round
+  pub round_low : (w m : ℕ) → w ≡ ceil step len → step * (m % (w + 1)) < len + step
+  round_low w m e =
+      let r : ℕ = m % (w + 1) in
+      let low : r < w + 1 = mod-lt m (omega arith) in
+      ceil_low r len (subst (λ (x : ℕ). r ≤ x) e (omega arith))
 
   ceil_high : (x : ℕ) → x ≤ ceil step x * step
   ceil_high x = (div_ceil_times x step sp).0

@@ -1,6 +1,6 @@
 -- A search over the piles: a pile passes where it has the place, and the card is there. The card under a head.
 -- Assumes nothing.
-use mathlib.Core.Bool.{Bool, true, ◌&&◌, cond, and-true}
+use mathlib.Core.Bool.{Bool, true, false, ◌&&◌, cond, and-true, true≢false}
 use mathlib.Core.Path.{◌≡◌, sym, ap, ap₂, ◌∙◌}
 use mathlib.Core.List.{List}
 use Prim.Native.Nat.{ℕ, ◌+◌, ◌-◌, ◌≤◌, ◌<◌}
@@ -16,8 +16,15 @@ use Rattle.hidden.specs.PilePlace.{has_place, stands_at, last_of}
 use Rattle.bits.proofs.Searches.{and_left, and_right, and_both}
 
 -- d has x at the place k, which the code reads as j; b says that the pile has such a place
-pub card_there : (d : List ℕ) (x j k : ℕ) → j ≡ k → (b : Bool) → b ≡ true → eqb (get_or d j 0) x ≡ true → (b && eqb (get_or d k 0) x) ≡ true
-card_there d x j k e b h t = and_both b (eqb (get_or d k 0) x) h (ap (λ (y : ℕ). eqb (get_or d y 0) x) (sym e) ∙ t)
+module _ (d : List ℕ) (x j k : ℕ) (e : j ≡ k) (b : Bool) where
+  pub card_there : b ≡ true → eqb (get_or d j 0) x ≡ true → (b && eqb (get_or d k 0) x) ≡ true
+  card_there h t = and_both b (eqb (get_or d k 0) x) h (ap (λ (y : ℕ). eqb (get_or d y 0) x) (sym e) ∙ t)
+
+  pub other_card : eqb (get_or d j 0) x ≡ false → (b && eqb (get_or d k 0) x) ≡ true → ⊥
+  other_card t h = true≢false (sym (and_right b (eqb (get_or d k 0) x) h) ∙ ap (λ (y : ℕ). eqb (get_or d y 0) x) (sym e) ∙ t)
+
+pub no_place : (b t : Bool) → b ≡ false → (b && t) ≡ true → ⊥
+no_place b t h e = true≢false (sym (and_left b t e) ∙ h)
 
 -- a place that the pile has
 pub place_some : (m i : ℕ) → has_place m i ≡ true → 0 < m
