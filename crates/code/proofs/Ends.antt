@@ -1,9 +1,9 @@
 -- The refusal of a resume, by what its tests say.
 -- Assumes nothing.
 use mathlib.Core.Bool.{Bool, true, false, not}
-use mathlib.Core.Path.{◌≡◌, sym, ap, ◌∙◌}
+use mathlib.Core.Path.{◌≡◌, refl, sym, ap, ◌∙◌}
 use mathlib.Core.List.{List}
-use Prim.Native.Nat.{ℕ, ◌≤◌, ◌<◌}
+use Prim.Native.Nat.{ℕ, zero, suc, ◌≤◌, ◌<◌}
 use lib.Dec.{eqb, ltb, leb}
 use borrow.Author.Tests.{lt-ltb, le-ltb}
 use Rattle.rules.specs.Bits.{any_of}
@@ -46,8 +46,15 @@ module _ (d : List ℕ) (step x : ℕ) where
   unfolding resume_refusal arrange_refusal later
   deal_then = sym (deal_first d step later)
 
-  pub refused_deal : (e : Refusal) → number e ≡ deal_refusal d step → number e ≡ resume_refusal d step x
-  refused_deal e h = sym (refused e later (number e)) ∙ ap (λ (r : ℕ). accepted r later r) h ∙ deal_then
+  pub refused_deal : (n : ℕ) → n ≡ deal_refusal d step → (n ≡ 0 → ⊥) → n ≡ resume_refusal d step x
+  refused_deal n e h = e ∙ go (deal_refusal d step) (λ z. h (e ∙ z)) ∙ deal_then
+    where
+      go : (r : ℕ) → (r ≡ 0 → ⊥) → r ≡ accepted r later r
+      go zero k = absurd (k refl)
+      go (suc r) k = refl
+
+  pub deal_refused : (e : Refusal) → number e ≡ deal_refusal d step → number e ≡ resume_refusal d step x
+  deal_refused e h = sym (refused e later (number e)) ∙ ap (λ (r : ℕ). accepted r later r) h ∙ deal_then
 
   -- of a deal that is not refused, by what the three tests say
   pub resume_tests : deal_refusal d step ≡ 0 → (a b c : Bool) → any_of 4 (λ s. ltb 13 (code_height x s)) ≡ a → leb 40320 (code_piles x) ≡ b → offset_wrong step x ≡ c → fields a b c (arrange_refusal (resumed d step x)) ≡ resume_refusal d step x

@@ -33,6 +33,11 @@ strike_hit : (y : ℕ) (xs : List ℕ) → strike y (y ∷ xs) ≡ xs
 unfolding strike
 strike_hit y xs = ap (λ (b : Bool). cond b xs (y ∷ xs)) (eq-eqb y y refl)
 
+-- a test as a number
+pub byte_le : (b : Bool) → bool_byte b ≤ 1
+byte_le true = omega arith
+byte_le false = omega arith
+
 -- at the place k, with `at` of the cards left passed
 abbrev pub next : List ℕ → List ℕ → ℕ → ℕ → ℕ → Bool
 next deal deck left k at = ltb at left && eqb (get_or deck at 0) (get_or deal (28 + k) 0)
@@ -49,17 +54,20 @@ pub record Right (deal deck : List ℕ) (left : ℕ) : Type 0 where
   pub order : in_order (take left deck) (take 24 (drop 28 deal)) ≡ true
   pub apart : (j k : ℕ) → j < 24 → k < 24 → get_or deal (28 + j) 0 ≡ get_or deal (28 + k) 0 → j ≡ k
 
-pub right : (p : Position) → T (proper p) → Shape p → Right p.deal p.deck p.left
+pub right : (p : Position) → T (proper p) → length p.deal ≡ 52 → length p.deck ≡ 24 → Right p.deal p.deck p.left
 unfolding deck_right
-right p t h =
+right p t long full =
     let f = facts p t in
     record {
-      long = h.deal;
-      full = h.deck;
+      long = long;
+      full = full;
       fits = f.left;
       order = (parts p (T_true (proper p) t)).deck;
       apart = λ j k l m e. let s : 28 + j ≡ 28 + k = f.differ (28 + j) (28 + k) (omega arith) (omega arith) e in omega arith;
     }
+
+pub shape_right : (p : Position) → T (proper p) → Shape p → Right p.deal p.deck p.left
+shape_right p t h = right p t h.deal h.deck
 
 -- what holds at the place k
 pub record Walk (deal deck : List ℕ) (left k at : ℕ) : Type 0 where

@@ -69,21 +69,21 @@ module _ (p : Position) (c n : ℕ) where
   unfolding made after undo_byte turned_up
   made_stack_pile k = made_taken p c n StackPile k
 
-  head_up : is_head p c ≡ true → made p 1 c ≡ record { position = uncovered (lifted (raised p c) c) (pile_of p c); byte = 1; turned = under (lifted (raised p c) c) (pile_of p c) }
+  pub head_up : is_head p c ≡ true → made p 1 c ≡ record { position = uncovered (lifted (raised p c) c) (pile_of p c); byte = 1; turned = under (lifted (raised p c) c) (pile_of p c) }
   unfolding made after undo_byte turned_up under_in lifted raised
   head_up h = rw h refl
 
   pub made_head_up : T (proper p) → PileStack ≡ kind_of n → {i : ℕ} → Some i ≡ head → made p n c ≡ record { position = uncovered (lifted (raised p c) c) i; byte = 1; turned = under (lifted (raised p c) c) i }
   made_head_up t k h = let f = found 7 _ h in let w = head_at p t c f.1 in rw (f.0, w.0) (made_taken p c n PileStack k ∙ head_up w.1)
 
-  card_up : is_head p c ≡ false → made p 1 c ≡ record { position = lifted (raised p c) c; byte = 0; turned = Nothing }
+  pub card_up : is_head p c ≡ false → made p 1 c ≡ record { position = lifted (raised p c) c; byte = 0; turned = Nothing }
   unfolding made after undo_byte turned_up
   card_up h = rw h refl
 
   pub made_card_up : T (proper p) → PileStack ≡ kind_of n → None ≡ head → made p n c ≡ record { position = lifted (raised p c) c; byte = 0; turned = Nothing }
   made_card_up t k h = made_taken p c n PileStack k ∙ card_up (no_head p t c (missed 7 _ h))
 
-  reveal : made p 4 c ≡ record { position = uncovered p (pile_of p c); byte = 0; turned = under p (pile_of p c) }
+  pub reveal : made p 4 c ≡ record { position = uncovered p (pile_of p c); byte = 0; turned = under p (pile_of p c) }
   unfolding made after undo_byte turned_up
   reveal = refl
 

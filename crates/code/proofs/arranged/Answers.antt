@@ -15,7 +15,7 @@ use Rattle.rules.specs.Fields.{with_visible}
 use Rattle.rules.specs.Answers.{overlaps}
 use Rattle.code.specs.declared.Sets.{Sets}
 use Rattle.code.specs.Resuming.{sets_of, worked, arrange_answer}
-use Rattle.deal.proofs.Answered.{is_refused, is_started}
+use Rattle.deal.proofs.Answered.{refused_is, started_is}
 use Rattle.code.proofs.Arranging.{free_of, meets_of, visible_is, meets_is, pairs_is, seven_is, arrange_tests}
 use Rattle.code.proofs.arranged.Goals as goal
 
@@ -31,7 +31,7 @@ pub returns-then-s-ne0 : goal.returns-then-s-ne0
 unfolding arrange_answer
 returns-then-s-ne0 c =
     let p = c.args.p in
-    is_refused Overlapping _ _ (arrange_tests (worked p) true _ (together p _ c.sets_of-s.ensures c.if-s-ne0.true) refl)
+    refused_is Overlapping _ _ (arrange_tests (worked p) true _ (together p _ c.sets_of-s.ensures c.if-s-ne0.true) refl)
 
 pub returns-then-not-pair_rule : goal.returns-then-not-pair_rule
 unfolding arrange_answer
@@ -39,7 +39,7 @@ returns-then-not-pair_rule c =
     let p = c.args.p in
     let e = c.sets_of-s.ensures in
     let broken : pair_rule (worked p) ≡ false = sym (c.if-not-pair_rule.ensures ∙ pairs_is p _ e) in
-    is_refused Unarranged _ _ (arrange_tests (worked p) false false (apart p _ e c.if-s-ne0.false) (ap (λ (b : Bool). b && seven_rule (worked p)) broken))
+    refused_is Unarranged _ _ (arrange_tests (worked p) false false (apart p _ e c.if-s-ne0.false) (ap (λ (b : Bool). b && seven_rule (worked p)) broken))
 
 pub overflow_add-count_heads : goal.overflow_add-count_heads
 overflow_add-count_heads c =
@@ -53,7 +53,7 @@ returns-then-count_heads-kings-gt-N_COLUMNS c =
     let e = c.sets_of-s.ensures in
     let seven = ap₂ (λ (a b : ℕ). leb (a + b) 7) c.count_heads.ensures c.kings.ensures ∙ seven_is p _ e in
     let broken : seven_rule (worked p) ≡ false = sym seven ∙ lt-leb _ 7 c.if-count_heads-kings-gt-N_COLUMNS.true in
-    is_refused Unarranged _ _ (arrange_tests (worked p) false false (apart p _ e c.if-s-ne0.false) (ap (λ (b : Bool). pair_rule (worked p) && b) broken ∙ and-false (pair_rule (worked p))))
+    refused_is Unarranged _ _ (arrange_tests (worked p) false false (apart p _ e c.if-s-ne0.false) (ap (λ (b : Bool). pair_rule (worked p) && b) broken ∙ and-false (pair_rule (worked p))))
 
 pub returns : goal.returns
 unfolding arrange_answer
@@ -61,6 +61,6 @@ returns c =
     let p = c.args.p in
     let e = c.sets_of-s.ensures in
     let seven = ap₂ (λ (a b : ℕ). leb (a + b) 7) c.count_heads.ensures c.kings.ensures ∙ seven_is p _ e in
-    is_started _ (worked p) _
+    started_is _ (worked p) _
     (arrange_tests (worked p) false true (apart p _ e c.if-s-ne0.false) (and_both _ _ (sym (c.if-not-pair_rule.ensures ∙ pairs_is p _ e)) (sym seven ∙ le-leb _ 7 c.if-count_heads-kings-gt-N_COLUMNS.false)))
     (ap (with_visible p) (visible_is p _ e))

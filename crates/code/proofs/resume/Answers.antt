@@ -18,9 +18,9 @@ use Rattle.rules.proofs.Refusing.{deal_passed}
 use Rattle.code.specs.declared.Fields.{Fields}
 use Rattle.deal.specs.Starts.{started_by}
 use Rattle.code.specs.Resuming.{fields_of, Ranged, arrange_answer}
-use Rattle.deal.proofs.Answered.{is_refused}
+use Rattle.deal.proofs.Answered.{refused_is}
 use Rattle.code.proofs.Parts.{heights_is, valid_is, left_is, deck_is, parts_are, ranged}
-use Rattle.code.proofs.Ends.{offset_high, offset_unstored, offset_right, refused_deal, resume_tests}
+use Rattle.code.proofs.Ends.{offset_high, offset_unstored, offset_right, deal_refused, resume_tests}
 use Rattle.code.proofs.resume.Goals as goal
 
 -- ---- what is decoded of the code x, and what each passed test says
@@ -69,14 +69,14 @@ pub returns-in_err-deal : goal.returns-in_err-deal
 unfolding resume_answer
 returns-in_err-deal c =
     let p = err_from_is_err_and c.from_residual.result c.from_residual.ensures.1 in
-    rw (p.1, p.2) (is_refused _ _ _ (refused_deal _ _ _ _ c.in_err-deal.ensures.refusal))
+    rw (p.1, p.2) (refused_is _ _ _ (deal_refused _ _ _ _ c.in_err-deal.ensures.refusal))
 
 pub returns-then-not-is_valid : goal.returns-then-not-is_valid
 unfolding resume_answer
 returns-then-not-is_valid c =
     let w = c.in_ok-deal.ensures in
     let v = valid c.args.code _ c.fields_of-fields.ensures _ c.decode-heights.ensures _ c.if-not-is_valid.ensures in
-    is_refused WrongHeight _ _ (resume_tests _ _ _ (sym w.refusal) true _ _ (not-false _ (sym v)) refl refl)
+    refused_is WrongHeight _ _ (resume_tests _ _ _ (sym w.refusal) true _ _ (not-false _ (sym v)) refl refl)
 
 pub returns-in_default : goal.returns-in_default
 unfolding resume_answer
@@ -85,7 +85,7 @@ returns-in_default c =
     let x = c.args.code in
     let e = c.fields_of-fields.ensures in
     let low : any_of 4 (λ s. ltb 13 (code_height x s)) ≡ false = not-true _ (sym (valid x _ e _ c.decode-heights.ensures _ c.if-not-is_valid.ensures)) in
-    is_refused WrongPiles _ _ (resume_tests _ _ _ (sym w.refusal) false true _ low (many x _ e c.in_default.ensures) refl)
+    refused_is WrongPiles _ _ (resume_tests _ _ _ (sym w.refusal) false true _ low (many x _ e c.in_default.ensures) refl)
 
 -- ---- the tests before the offset's, and the offset's own
 
@@ -98,7 +98,7 @@ returns-then-offset-left c =
     let low : any_of 4 (λ s. ltb 13 (code_height x s)) ≡ false = not-true _ (sym (valid x _ e _ c.decode-heights.ensures _ c.if-not-is_valid.ensures)) in
     let few = (counts x _ e _ c.in-Some.ensures).0 in
     let l : code_left x < code_offset x = omega (arith, left x _ e _ c.decode-left.ensures.1, offset x _ e, c.if-offset-left.true) in
-    is_refused WrongOffset _ _ (resume_tests _ _ _ (sym w.refusal) false false true low few (offset_high _ _ l))
+    refused_is WrongOffset _ _ (resume_tests _ _ _ (sym w.refusal) false false true low few (offset_high _ _ l))
 
 pub normalized_offset-requires : goal.normalized_offset-requires
 normalized_offset-requires c = step_low _ (deal_passed _ _ (sym c.in_ok-deal.ensures.refusal)).fair
@@ -112,7 +112,7 @@ returns-then-normalized_offset-offset c =
     let low : any_of 4 (λ s. ltb 13 (code_height x s)) ≡ false = not-true _ (sym (valid x _ e _ c.decode-heights.ensures _ c.if-not-is_valid.ensures)) in
     let few = (counts x _ e _ c.in-Some.ensures).0 in
     let s = stored x _ e c.args.step _ _ (left x _ e _ c.decode-left.ensures.1) c.normalized_offset.ensures in
-    is_refused WrongOffset _ _ (resume_tests _ _ _ (sym w.refusal) false false true low few (offset_unstored _ _ (sym s ∙ ne_eqb _ _ c.if-normalized_offset-offset.true)))
+    refused_is WrongOffset _ _ (resume_tests _ _ _ (sym w.refusal) false false true low few (offset_unstored _ _ (sym s ∙ ne_eqb _ _ c.if-normalized_offset-offset.true)))
 
 pub arranged-requires : goal.arranged-requires
 arranged-requires c =

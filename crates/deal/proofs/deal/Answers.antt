@@ -8,14 +8,14 @@ use Rattle.rules.specs.Code.{fresh}
 use Rattle.rules.specs.Answers.{deal_answer}
 use Rattle.rules.proofs.Refusing.{deal_passed}
 use Rattle.rules.proofs.DealLaw.{cards_low}
-use Rattle.deal.proofs.Answered.{is_refused, is_started}
+use Rattle.deal.proofs.Answered.{refused_is, started_is}
 use Rattle.deal.proofs.deal.Goals as goal
 
 pub returns-in_err-judge : goal.returns-in_err-judge
 unfolding deal_answer
 returns-in_err-judge c =
     let p = err_from_is_err_and c.from_residual.result c.from_residual.ensures.1 in
-    rw (p.1, p.2) (is_refused _ _ _ c.in_err-judge.ensures.refusal)
+    rw (p.1, p.2) (refused_is _ _ _ c.in_err-judge.ensures.refusal)
 
 pub fresh-requires : goal.fresh-requires
 fresh-requires c k l =
@@ -26,4 +26,4 @@ pub returns : goal.returns
 unfolding deal_answer
 returns c =
     let w = c.in_ok-judge.ensures in
-    is_started _ _ _ w.refusal (c.fresh.ensures ∙ ap (λ (d : List ℕ). fresh d c.args.step) w.cards)
+    started_is _ _ _ w.refusal (c.fresh.ensures ∙ ap (λ (d : List ℕ). fresh d c.args.step) w.cards)

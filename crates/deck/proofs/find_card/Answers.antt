@@ -11,7 +11,7 @@ use Rattle.rules.specs.Places.{in_deck}
 use Rattle.rules.proofs.Facts.{facts}
 use Rattle.rules.proofs.Held.{held}
 use Rattle.deck.proofs.Fields.{item_at}
-use Rattle.deck.proofs.Passing.{Right, right, Walk, has, walk_start, walk_step, found_at, nowhere, next}
+use Rattle.deck.proofs.Passing.{Right, shape_right, Walk, has, walk_start, walk_step, found_at, nowhere, next}
 use Rattle.deck.proofs.find_card.Goals as goal
 
 pub shared_ref_as_front-cards : goal.shared_ref_as_front-cards
@@ -20,7 +20,7 @@ shared_ref_as_front-cards c = (facts c.args.p.position c.args.p.good).left
 pub loop-c-init : goal.loop-c-init
 loop-c-init c =
     let p = c.args.p.position in
-    record { walk = walk_start p.deal p.deck p.left (right p c.args.p.good (held c.args.p _ c.well_formed.0)); not_yet = λ j l e. omega arith }
+    record { walk = walk_start p.deal p.deck p.left (shape_right p c.args.p.good (held c.args.p _ c.well_formed.0)); not_yet = λ j l e. omega arith }
 
 -- the next of the cards left is this one
 is_next : (xs : List ℕ) (at : ℕ) (o : Option (Bor ℕ)) (x : Bor ℕ) → IsItemAt xs at o → option_eq (λ a b. eqb a.now b.now) o (Some x) ≡ (ltb at (length xs) && eqb (get_or xs at 0) x.now)
@@ -46,7 +46,7 @@ unfolding in_deck
 returns-then-c-card c =
     let p = c.args.p.position in
     let l = c.loop-c in
-    let d = right p c.args.p.good (held c.args.p _ c.well_formed.0) in
+    let d = shape_right p c.args.p.good (held c.args.p _ c.well_formed.0) in
     let low : l.c-index < 24 = omega (arith, d.long) in
     let item = item_at p.deal (length p.deal - 28) l.c-index (omega arith) in
     let s = round p l.c-index l.at c.get.result _ c.eq-hit.result d low l.invariant.walk item c.get.ensures.lookup c.eq-hit.ensures in (
@@ -58,7 +58,7 @@ pub loop-c-preserved : goal.loop-c-preserved
 loop-c-preserved c =
     let p = c.args.p.position in
     let l = c.loop-c in
-    let d = right p c.args.p.good (held c.args.p _ c.well_formed.0) in
+    let d = shape_right p c.args.p.good (held c.args.p _ c.well_formed.0) in
     let item = item_at p.deal (length p.deal - 28) l.c-index (omega arith) in
     let s = round p l.c-index l.at c.get.result _ c.eq-hit.result d (omega (arith, d.long)) l.invariant.walk item c.get.ensures.lookup c.eq-hit.ensures in
     record { walk = s.1; not_yet = below_more _ _ l.invariant.not_yet (λ e. c.if-c-card.false (item ∙ e)) }
@@ -66,5 +66,5 @@ loop-c-preserved c =
 pub returns : goal.returns
 returns c =
     let p = c.args.p.position in
-    let d = right p c.args.p.good (held c.args.p _ c.well_formed.0) in
+    let d = shape_right p c.args.p.good (held c.args.p _ c.well_formed.0) in
     nowhere p c.args.card d (λ j m. c.loop-c.invariant.not_yet j (omega (arith, d.long, length-drop {A = ℕ})))
