@@ -66,9 +66,9 @@ fn fill_run(part: &mut [u8], vis: u64, free: u64, start: u8) -> u8
 
 // Of a pile with no head: its length, and the suit from which the next search starts.
 #[derive(Clone, Copy)]
-struct Filled {
-    len: u8,
-    from: u8,
+pub struct Filled {
+    pub len: u8,
+    pub from: u8,
 }
 
 // A pile with no head takes the next free king from a suit on.

@@ -22,17 +22,17 @@ impl Count {
 
 // The first wrong record: its number from 1 on, its tag, and the byte, or None where what no byte shows was not kept.
 #[derive(Clone, Copy)]
-struct First {
-    record: u64,
-    tag: Result<Tag, NoTag>,
-    byte: Option<usize>,
+pub struct First {
+    pub record: u64,
+    pub tag: Result<Tag, NoTag>,
+    pub byte: Option<usize>,
 }
 
 #[derive(Clone, Copy, Default)]
 pub struct Tally {
-    all: Count,
-    of_tag: [Count; N_TAGS],
-    first: Option<First>,
+    pub all: Count,
+    pub of_tag: [Count; N_TAGS],
+    pub first: Option<First>,
 }
 
 impl Tally {
