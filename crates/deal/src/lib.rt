@@ -27,22 +27,22 @@ pub fn blank() -> Position
     }
 }
 
-// The deal's cards, or refusals 1 to 4. A byte of 64 or more shows in the OR of all bytes, one of 52 to 63 above the mask's 52 bits;
+// The deal's cards where they lie, or refusals 1 to 4. A byte of 64 or more shows in the OR of all bytes, one of 52 to 63 above the mask's 52 bits;
 // then a card is there twice where another is missing.
-pub fn judge(step: u8, cards: &[u8]) -> Result<[u8; 52], Refusal>
+fn admitted(step: u8, cards: &[u8]) -> Result<&[u8; 52], Refusal>
     ensures refusal { refusal_of result ≡ deal_refusal cards.now step }
-    ensures cards { IfOk result (λ dealt. dealt ≡ cards.now) }
+    ensures cards { IfOk result (λ dealt. dealt.now ≡ cards.now) }
 {
     if !deck::is_step(step) {
         return Err(Refusal::WrongStep);
     }
-    let Ok(deal) = <[u8; N_CARDS]>::try_from(cards) else {
+    let Ok(deal) = <&[u8; N_CARDS]>::try_from(cards) else {
         return Err(Refusal::WrongLength);
     };
-    if !proper::all_small(&deal) {
+    if !proper::all_small(deal) {
         return Err(Refusal::NoCard);
     }
-    let seen = card::cards_from(&deal, 0, N_CARDS);
+    let seen = card::cards_from(deal, 0, N_CARDS);
     if seen > card::FULL_MASK {
         return Err(Refusal::NoCard);
     }
@@ -50,6 +50,14 @@ pub fn judge(step: u8, cards: &[u8]) -> Result<[u8; 52], Refusal>
         return Err(Refusal::SameCard);
     }
     Ok(deal)
+}
+
+// The deal's cards, or refusals 1 to 4.
+pub fn judge(step: u8, cards: &[u8]) -> Result<[u8; 52], Refusal>
+    ensures refusal { refusal_of result ≡ deal_refusal cards.now step }
+    ensures cards { IfOk result (λ dealt. dealt ≡ cards.now) }
+{
+    Ok(*admitted(step, cards)?)
 }
 
 // The last 24 cards of a deal.
@@ -83,5 +91,5 @@ pub fn fresh(step: u8, deal: [u8; 52]) -> Position
 pub fn deal(step: u8, cards: &[u8]) -> Result<Position, Refusal>
     ensures { started_of result ≡ deal_answer cards.now step }
 {
-    Ok(fresh(step, judge(step, cards)?))
+    Ok(fresh(step, *admitted(step, cards)?))
 }

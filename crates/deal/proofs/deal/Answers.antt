@@ -11,19 +11,19 @@ use Rattle.rules.proofs.DealLaw.{cards_low}
 use Rattle.deal.proofs.Answered.{refused_is, started_is}
 use Rattle.deal.proofs.deal.Goals as goal
 
-pub returns-in_err-judge : goal.returns-in_err-judge
+pub returns-in_err-admitted : goal.returns-in_err-admitted
 unfolding deal_answer
-returns-in_err-judge c =
+returns-in_err-admitted c =
     let p = err_from_is_err_and c.from_residual.result c.from_residual.ensures.1 in
-    rw (p.1, p.2) (refused_is _ _ _ c.in_err-judge.ensures.refusal)
+    rw (p.1, p.2) (refused_is _ _ _ c.in_err-admitted.ensures.refusal)
 
 pub fresh-requires : goal.fresh-requires
 fresh-requires c k l =
-    let w = c.in_ok-judge.ensures in
+    let w = c.in_ok-admitted.ensures in
     omega (arith, ap (λ (d : List ℕ). get_or d k 0) w.cards, cards_low _ (deal_passed _ _ (sym w.refusal)).cards k l)
 
 pub returns : goal.returns
 unfolding deal_answer
 returns c =
-    let w = c.in_ok-judge.ensures in
+    let w = c.in_ok-admitted.ensures in
     started_is _ _ _ w.refusal (c.fresh.ensures ∙ ap (λ (d : List ℕ). fresh d c.args.step) w.cards)

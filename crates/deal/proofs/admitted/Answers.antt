@@ -1,4 +1,4 @@
--- `deal::judge` meets its contract.
+-- `deal::admitted` meets its contract.
 -- Assumes nothing.
 use Rattle.std.proofs.Common.{◌≡◌, refl, sym, ap, ◌∙◌, ℕ, List, ◌-◌, ◌^◌, length, Bool, true, false, ◌≤◌}
 use native.Mathlib.Omega.{arith}
@@ -9,7 +9,7 @@ use Rattle.rules.specs.Answers.{deal_refusal}
 use Rattle.rules.specs.Hidden.{cards_from}
 use Rattle.deal.proofs.DealTest.{Small, not_small, not_filled, filled_cards, different_is}
 use Rattle.rules.proofs.Refusing.{four, deal_tests}
-use Rattle.deal.proofs.judge.Goals as goal
+use Rattle.deal.proofs.admitted.Goals as goal
 
 -- the refusal of what was given, by what the tests say of the 52 bytes that came of it
 of_bytes : (given d : List ℕ) (step : ℕ) (e f : Bool) → d ≡ given → length given ≡ 52 → true ≡ step_right step → are_cards d ≡ e → are_different d ≡ f → four true true e f 0 ≡ deal_refusal given step
